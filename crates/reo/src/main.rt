@@ -5,57 +5,30 @@
 //! the events of the input.
 #![tactic(auto)]
 
-ghost use Rattle.std.specs.Prelude.{◌≡◌, ◌≢◌, [], map, drop, IfErr, IfOk, IsErr, MatchResult};
-ghost use Rattle.std.specs.IoError.{error_kind};
+ghost use Rattle.std.specs.Prelude.{◌≡◌, ◌↔◌, IsTrue, MatchResult, Some};
 ghost use Rattle.std.specs.Process.{exit_status};
-ghost use Rattle.std.specs.String.{string_bytes};
-ghost use Rattle.std.specs.Vec.Iter.{into_iter_items};
 ghost use Rattle.reo_command.specs.Commands.{command_of};
-ghost use Rattle.reo_command.specs.Statuses.{IsAmong, statuses_for};
+ghost use Rattle.reo_command.specs.Outside.{HasEnded, IsOut, output_change};
+ghost use Rattle.reo_io.specs.Real.{writer_held};
+ghost use Rattle.reo_command.specs.States.{files_change};
+ghost use Rattle.reo_command.specs.declared.command.Command.TheVariants as commands;
+ghost use Rattle.reo_live.specs.closings.Sources.{source_change};
+ghost use Rattle.reo_top.specs.Done.{IsDone};
+ghost use Rattle.reo.specs.Ended.{EndsOver};
 
-use reo_io::{DiskFiles, Sink, SinkFault, StdSink, StdSource};
+use reo_command::{OUT_OF_MEMORY, flushed, words_of};
+use reo_io::{DiskFiles, Files, Source, StdSink, StdSource};
 use reo_top::{Command, Status, command_of, reo};
 use reo_values::{Bytes, List, NoMemory};
 use std::alloc::Global;
-use std::env::Args;
-use std::io::{BufWriter, ErrorKind, Write};
+use std::io::{BufWriter, Write};
 use std::process::ExitCode;
 use std::{env, io};
 
 /// Memory ran out before the command could begin.
-const NO_MEMORY: Status = Status { code: 10 };
-
-/// The output failed.
-const WRITE_FAULT: Status = Status { code: 9 };
-
-/// The words behind the first argument, which is the program's name, in their order.
-fn words_behind(alloc: Global, arguments: Args) -> Result<List<Bytes>, NoMemory>
-    ensures { IfOk result (λ words. words ≡ map string_bytes (drop 1 (into_iter_items arguments))) }
-{
-    let mut words = List::new(alloc);
-    for word in arguments.skip(1) {
-        words.push(Bytes::from_vec(word.into_bytes()))?;
-    }
-    Ok(words)
-}
-
-/// The words of the command, from what the system gave. Where it gave none for another cause than
-/// out of memory, there are none.
-fn words_of(alloc: Global, given: io::Result<Args>) -> Result<List<Bytes>, NoMemory>
-    ensures words { IfOk given
-        (λ arguments. IfOk result
-        (λ words. words ≡ map string_bytes (drop 1 (into_iter_items arguments)))) }
-    ensures none { IfErr given
-        (λ fault. error_kind fault ≢ ErrorKind.OutOfMemory → result ≡ Ok []) }
-    ensures memory { IfErr given
-        (λ fault. error_kind fault ≡ ErrorKind.OutOfMemory → IsErr result) }
-{
-    match given {
-        Ok(arguments) => words_behind(alloc, arguments),
-        Err(fault) if fault.kind() == ErrorKind::OutOfMemory => Err(NoMemory),
-        Err(_) => Ok(List::new(alloc)),
-    }
-}
+const NO_MEMORY: Status = Status {
+    code: OUT_OF_MEMORY,
+};
 
 /// The exit code of a status.
 fn exit_code(status: Status) -> ExitCode
@@ -64,81 +37,87 @@ fn exit_code(status: Status) -> ExitCode
     ExitCode::from(status.code)
 }
 
-/// The status of the command with these words on the system's files and input, over this output.
-fn status_over<S: Sink>(rt: &HostRuntime, words: &List<Bytes>, out: &mut S) -> Status
-    ensures { IsAmong (statuses_for (command_of words.now)) result.code }
-{
-    let alloc: Global = rt.alloc();
-    let mut files = DiskFiles::new(alloc, rt);
-    let mut source = StdSource::new(rt.reader());
-    reo(alloc, words, &mut files, &mut source, out)
-}
-
-/// The status of a failed output, which each command may have.
-fn write_fault(words: &List<Bytes>) -> Status
-    ensures { IsAmong (statuses_for (command_of words.now)) result.code }
-{
-    let _words = words;
-    WRITE_FAULT
-}
-
-/// The status of the command with these words, once all that was put is out. Where it does not come
-/// out, the output failed, and nothing more is tried.
-fn status_behind<W: Write + Drop>(
-    rt: &HostRuntime,
+/// The status of the command with these words, once all that was put is out.
+fn status_of<F: Files, R: Source, W: Write>(
+    alloc: Global,
     words: &List<Bytes>,
-    writer: BufWriter<W>,
+    files: &mut F,
+    source: &mut R,
+    out: &mut StdSink<W>,
 ) -> Status
-    ensures { IsAmong (statuses_for (command_of words.now)) result.code }
+    ensures { let files = files_change F.told F.failed F.given F.long F.fetches
+        files.old files.new in
+        let source = source_change R.told R.given R.ends R.faults source.old source.new in
+        IsOut (IsDone words.now files source)
+        (output_change out.old out.new) (writer_held out.new) result.code }
 {
-    let mut sink = StdSink::new(writer);
-    let status = status_over(rt, words, &mut sink);
-    let flushed = sink.flush();
-    let (_writer, _left) = sink.into_writer().into_parts();
-    match flushed {
-        Ok(()) => status,
-        Err(SinkFault::Failed) => write_fault(words),
-    }
+    let status = reo(alloc, words, files, source, out);
+    flushed(status, out)
 }
 
-/// The same, where what is put is gathered and written in large pieces, or each by itself where
-/// there is no memory for that.
-fn gathered_status(rt: &HostRuntime, words: &List<Bytes>) -> Status
-    ensures { IsAmong (statuses_for (command_of words.now)) result.code }
-{
-    match BufWriter::new(rt.alloc(), io::writer(rt)) {
-        Ok(writer) => status_behind(rt, words, writer),
-        Err(_) => status_over(rt, words, &mut StdSink::new(io::writer(rt))),
-    }
-}
-
-/// The status of the command with these words on the system's files and streams. Where events are
-/// heard each answer is written by itself, so that it is out before more is taken.
-fn status_of(rt: &HostRuntime, words: &List<Bytes>) -> Status
-    ensures { IsAmong (statuses_for (command_of words.now)) result.code }
-{
-    if command_of(words.as_slice()) == Some(Command::Live) {
-        return status_over(rt, words, &mut StdSink::new(io::writer(rt)));
-    }
-    gathered_status(rt, words)
-}
-
-/// What the process ends with: the status of the command with these words on the system's files
-/// and streams, or 10 where memory for the words ran out.
-fn ended(rt: &HostRuntime, words: Result<List<Bytes>, NoMemory>) -> ExitCode
-    ensures { MatchResult words
-        (λ words. IsAmong (statuses_for (command_of words)) (exit_status result))
-        (λ _. exit_status result ≡ 10) }
+/// What the process ends with: the status of the command with these words, or 10 where memory for
+/// the words ran out.
+fn ended<F: Files, R: Source, W: Write>(
+    alloc: Global,
+    words: Result<List<Bytes>, NoMemory>,
+    files: &mut F,
+    source: &mut R,
+    out: &mut StdSink<W>,
+) -> ExitCode
+    ensures { let files = files_change F.told F.failed F.given F.long F.fetches
+        files.old files.new in
+        let source = source_change R.told R.given R.ends R.faults source.old source.new in
+        HasEnded (λ words. IsDone words files source) words
+        (output_change out.old out.new) (writer_held out.new) (exit_status result) }
 {
     match words {
-        Ok(words) => exit_code(status_of(rt, &words)),
+        Ok(words) => exit_code(status_of(alloc, &words, files, source, out)),
         Err(NoMemory) => exit_code(NO_MEMORY),
     }
 }
 
+/// Whether these words have events heard. Then each answer is written by itself, so that it is out
+/// before more is taken.
+fn hears(words: &Result<List<Bytes>, NoMemory>) -> bool
+    ensures { MatchResult words.now
+        (λ words. IsTrue result ↔ (command_of words ≡ Some commands.Live))
+        (λ _. result ≡ false) }
+{
+    match words {
+        Ok(words) => command_of(words.as_slice()) == Some(Command::Live),
+        Err(NoMemory) => false,
+    }
+}
+
+/// What the process ends with, over the system's files and input and this writer.
+fn ended_on<W: Write>(
+    rt: &HostRuntime,
+    words: Result<List<Bytes>, NoMemory>,
+    out: &mut StdSink<W>,
+) -> ExitCode
+    ensures { EndsOver words (output_change out.old out.new)
+        (writer_held out.new) (exit_status result) }
+{
+    let alloc: Global = rt.alloc();
+    let mut files = DiskFiles::new(alloc, rt);
+    let mut source = StdSource::new(rt.reader());
+    ended(alloc, words, &mut files, &mut source, out)
+}
+
+/// What is put is gathered and written in large pieces; each by itself where events are heard, or
+/// where there is no memory for that.
 fn main(rt: HostRuntime) -> ExitCode {
     let words = words_of(rt.alloc(), env::args(&rt));
-    ended(&rt, words)
+    if hears(&words) {
+        return ended_on(&rt, words, &mut StdSink::new(io::writer(&rt)));
+    }
+    let Ok(writer) = BufWriter::new(rt.alloc(), io::writer(&rt)) else {
+        return ended_on(&rt, words, &mut StdSink::new(io::writer(&rt)));
+    };
+    let mut out = StdSink::new(writer);
+    let code = ended_on(&rt, words, &mut out);
+    let (_writer, _left) = out.into_writer().into_parts();
+    code
 }
 
 #[cfg(test)]

@@ -1,8 +1,10 @@
 //! What the process ends with, over files of the system.
 use crate::ended;
+use reo_io::{DiskFiles, StdSink, SureSource};
 use reo_values::{Bytes, List, NoMemory};
 use std::alloc::Global;
-use std::fs;
+use std::fs::{self, File};
+use std::io::{self, BufWriter};
 use std::process::{self, ExitCode};
 use std::test::Fail;
 
@@ -25,22 +27,59 @@ fn words(alloc: Global, all: &[&[u8]]) -> Result<List<Bytes>, NoMemory> {
     Ok(words)
 }
 
-/// The exit code of a run of these two files.
-fn run(rt: &HostRuntime, circuit: &[u8], script: &[u8]) -> Result<ExitCode, NoMemory> {
-    let words = words(rt.alloc(), &[b"run", circuit, script])?;
-    Ok(ended(rt, Ok(words)))
+const ONE: &[u8] = b"connector main(in a: int 0..9, out b: int 0..9) { sync a b; }";
+
+const GIVE: &[u8] = b"component p { write a 3; } component q { take b; }";
+
+const TRACE: &[u8] = b"round 1: a!3 b?3 | 0 0 0\ndone after 1 rounds\n";
+
+const PROVED: &[u8] = b"round 1: a!3 b?3 | 0 0 0\nproved\ndone after 1 rounds\n";
+
+/// The exit code of these words over the system's files and output, and a source that is at its
+/// end.
+fn code(rt: &HostRuntime, all: &[&[u8]]) -> Result<ExitCode, NoMemory> {
+    let alloc: Global = rt.alloc();
+    let words = words(alloc, all)?;
+    let mut source = SureSource::new(alloc, Bytes::new(alloc))?;
+    let mut out = StdSink::new(io::writer(rt));
+    Ok(ended(
+        alloc,
+        Ok(words),
+        &mut DiskFiles::new(alloc, rt),
+        &mut source,
+        &mut out,
+    ))
 }
 
-/// The exit code of the verdict on the script, taken as a proof.
-fn verify_proof(rt: &HostRuntime, circuit: &[u8], script: &[u8]) -> Result<ExitCode, NoMemory> {
-    let words = words(rt.alloc(), &[b"verify-proof", circuit, script, script])?;
-    Ok(ended(rt, Ok(words)))
+/// The same, through a buffer before a file that is open for reading.
+fn code_unwritten(rt: &HostRuntime, all: &[&[u8]], path: &str) -> Result<ExitCode, Fail> {
+    let alloc: Global = rt.alloc();
+    let words = words(alloc, all)?;
+    let mut source = SureSource::new(alloc, Bytes::new(alloc))?;
+    let mut out = StdSink::new(BufWriter::new(alloc, File::open(rt, path)?)?);
+    let code = ended(
+        alloc,
+        Ok(words),
+        &mut DiskFiles::new(alloc, rt),
+        &mut source,
+        &mut out,
+    );
+    let (_file, _left) = out.into_writer().into_parts();
+    Ok(code)
 }
 
-/// The exit code of listing the tables of this file.
-fn list(rt: &HostRuntime, circuit: &[u8]) -> Result<ExitCode, NoMemory> {
-    let words = words(rt.alloc(), &[b"list", circuit])?;
-    Ok(ended(rt, Ok(words)))
+/// The exit code where memory for the words ran out.
+fn code_without_words(rt: &HostRuntime) -> Result<ExitCode, NoMemory> {
+    let alloc: Global = rt.alloc();
+    let mut source = SureSource::new(alloc, Bytes::new(alloc))?;
+    let mut out = StdSink::new(io::writer(rt));
+    Ok(ended(
+        alloc,
+        Err(NoMemory),
+        &mut DiskFiles::new(alloc, rt),
+        &mut source,
+        &mut out,
+    ))
 }
 
 #[test]
@@ -49,19 +88,71 @@ fn the_process_ends_with_the_status(rt: HostRuntime) -> Result<(), Fail> {
     let id = process::id(rt.process());
     let circuit = format!(in alloc; "/tmp/reo_circuit_{id}")?;
     let script = format!(in alloc; "/tmp/reo_script_{id}")?;
+    let (c, s) = (circuit.as_bytes(), script.as_bytes());
     fs::write(&rt, circuit.as_str(), TWO)?;
     fs::write(&rt, script.as_str(), LATER)?;
-    assert!(rt; run(&rt, circuit.as_bytes(), script.as_bytes())? == ExitCode::from(1));
+    assert!(rt; code(&rt, &[b"run", c, s])? == ExitCode::from(1));
     fs::write(&rt, script.as_str(), ALL)?;
-    assert!(rt; run(&rt, circuit.as_bytes(), script.as_bytes())? == ExitCode::from(0));
-    assert!(rt; verify_proof(&rt, circuit.as_bytes(), script.as_bytes())? == ExitCode::from(13));
-    assert!(rt; run(&rt, script.as_bytes(), script.as_bytes())? == ExitCode::from(5));
+    assert!(rt; code(&rt, &[b"run", c, s])? == ExitCode::from(0));
+    assert!(rt; code_unwritten(&rt, &[b"run", c, s], circuit.as_str())? == ExitCode::from(9));
+    assert!(rt; code(&rt, &[b"verify-proof", c, s, s])? == ExitCode::from(13));
+    assert!(rt; code(&rt, &[b"run", s, s])? == ExitCode::from(5));
     fs::write(&rt, circuit.as_str(), FILTERED)?;
-    assert!(rt; list(&rt, circuit.as_bytes())? == ExitCode::from(14));
+    assert!(rt; code(&rt, &[b"list", c])? == ExitCode::from(14));
     fs::remove_file(&rt, circuit.as_str())?;
     fs::remove_file(&rt, script.as_str())?;
-    assert!(rt; run(&rt, circuit.as_bytes(), script.as_bytes())? == ExitCode::from(3));
-    assert!(rt; ended(&rt, Ok(List::new(alloc))) == ExitCode::from(2));
-    assert!(rt; ended(&rt, Err(NoMemory)) == ExitCode::from(10));
+    assert!(rt; code(&rt, &[b"run", s, s])? == ExitCode::from(3));
+    assert!(rt; code(&rt, &[])? == ExitCode::from(2));
+    assert!(rt; code_without_words(&rt)? == ExitCode::from(10));
+    Ok(())
+}
+
+/// Whether each command ends well, with all its options.
+fn all_end_well(
+    rt: &HostRuntime,
+    c: &[u8],
+    s: &[u8],
+    t: &[u8],
+    p: &[u8],
+) -> Result<bool, NoMemory> {
+    let run: &[&[u8]] = &[b"run", c, s, b"--budget", b"5", b"--rounds", b"5"];
+    let lines: [&[&[u8]]; 10] = [
+        run,
+        &[b"check", c],
+        &[b"print", c],
+        &[b"upgrade", c],
+        &[b"verify", c, s, t],
+        &[b"bench", b"1"],
+        &[b"live", c, b"--budget", b"5"],
+        &[b"list", c],
+        &[b"prove", c, s],
+        &[b"verify-proof", c, s, p],
+    ];
+    for line in lines {
+        if code(rt, line)? != ExitCode::from(0) {
+            return Ok(false);
+        }
+    }
+    Ok(true)
+}
+
+#[test]
+fn each_command_ends_well(rt: HostRuntime) -> Result<(), Fail> {
+    let alloc = rt.alloc();
+    let id = process::id(rt.process());
+    let circuit = format!(in alloc; "/tmp/reo_one_{id}")?;
+    let script = format!(in alloc; "/tmp/reo_give_{id}")?;
+    let trace = format!(in alloc; "/tmp/reo_trace_{id}")?;
+    let proof = format!(in alloc; "/tmp/reo_proof_{id}")?;
+    fs::write(&rt, circuit.as_str(), ONE)?;
+    fs::write(&rt, script.as_str(), GIVE)?;
+    fs::write(&rt, trace.as_str(), TRACE)?;
+    fs::write(&rt, proof.as_str(), PROVED)?;
+    let (c, s) = (circuit.as_bytes(), script.as_bytes());
+    assert!(rt; all_end_well(&rt, c, s, trace.as_bytes(), proof.as_bytes())?);
+    fs::remove_file(&rt, circuit.as_str())?;
+    fs::remove_file(&rt, script.as_str())?;
+    fs::remove_file(&rt, trace.as_str())?;
+    fs::remove_file(&rt, proof.as_str())?;
     Ok(())
 }

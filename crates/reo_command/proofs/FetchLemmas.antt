@@ -7,7 +7,7 @@ use Rattle.reo_io.specs.Fetches.{Folder, fetches_after}
 use Rattle.reo_command.specs.declared.role.Role.{Role}
 use Rattle.reo_command.specs.declared.stop.Stop.{Stop}
 use Rattle.reo_command.specs.declared.stop.Stop.TheVariants.{Missed, TooLong, Refused, NoMemory}
-use Rattle.reo_command.specs.Fetched.{Content, gone, long, text, unknown, has_gone, missed, texts_given, AreTold, AreFetched, AreShort}
+use Rattle.reo_command.specs.Fetched.{Content, gone, long, text, unknown, has_gone, missed, texts_given, long_among, AreTold, AreFetched, AreShort}
 use Rattle.reo_command.specs.Readings.{ReadsFile, StopsFile, IsReadAs, IsReadFrom}
 use Rattle.reo_command.specs.ReadSteps.{IsTextRead}
 use Rattle.reo_command.specs.States.{FilesState, Change}
@@ -56,6 +56,15 @@ given_more (n ∷ ns) m (long ∷ cs) few = given_more ns m cs (omega (arith, fe
 given_more (n ∷ ns) m (text bytes ∷ cs) few = ap (λ (fs : List (List ℕ × List ℕ)). (n, bytes) ∷ fs) (given_more ns m cs (omega (arith, few)))
 given_more (n ∷ ns) m (unknown ∷ cs) few = given_more ns m cs (omega (arith, few))
 
+long_more : (names : List (List ℕ)) (m : List ℕ) (answers : List Content) → length answers ≤ length names → long_among (names ++ m ∷ []) answers ≡ long_among names answers
+long_more [] m [] few = refl
+long_more (n ∷ ns) m [] few = refl
+long_more [] m (c ∷ cs) few = absurd (omega (arith, few))
+long_more (n ∷ ns) m (gone ∷ cs) few = long_more ns m cs (omega (arith, few))
+long_more (n ∷ ns) m (long ∷ cs) few = ap (λ (ms : List (List ℕ)). n ∷ ms) (long_more ns m cs (omega (arith, few)))
+long_more (n ∷ ns) m (text bytes ∷ cs) few = long_more ns m cs (omega (arith, few))
+long_more (n ∷ ns) m (unknown ∷ cs) few = long_more ns m cs (omega (arith, few))
+
 if_told : {X : Type 0} (o : Option X) (A B : X → Type 0) → ((x : X) → A x → B x) → IfSome o A → IfSome o B
 if_told None A B f h = h
 if_told (Some x) A B f h = f x h
@@ -73,6 +82,7 @@ module _ (roles : List Role) (names : List (List ℕ)) (q : Role) (m : List ℕ)
     failed = f.failed ∙ ap (λ (xs : List (List ℕ)). files.old.failed ++ xs) (sym (missed_more names m answers f.few));
     short = f.short;
     given = f.given ∙ ap (λ (fs : List (List ℕ × List ℕ)). files.old.given ++ fs) (sym (given_more names m answers f.few));
+    long_names = f.long_names ∙ ap (λ (ns : List (List ℕ)). files.old.long ++ ns) (sym (long_more names m answers f.few));
     same = f.same;
     told = if_told files.old.told (λ folder. AreTold folder roles names answers) (λ folder. AreTold folder (roles ++ q ∷ []) (names ++ m ∷ []) answers) (λ folder h. told_more folder roles names q m answers h) f.told;
   }
@@ -105,6 +115,15 @@ given_then (n ∷ ns) m (unknown ∷ cs) more all = given_then ns m cs more (ome
 given_then [] m (c ∷ cs) more all = absurd (omega (arith, all))
 given_then (n ∷ ns) m [] more all = absurd (omega (arith, all))
 
+long_then : (names : List (List ℕ)) (m : List ℕ) (answers more : List Content) → length answers ≡ length names → long_among (names ++ m ∷ []) (answers ++ more) ≡ long_among names answers ++ long_among (m ∷ []) more
+long_then [] m [] more all = refl
+long_then (n ∷ ns) m (gone ∷ cs) more all = long_then ns m cs more (omega (arith, all))
+long_then (n ∷ ns) m (long ∷ cs) more all = ap (λ (ms : List (List ℕ)). n ∷ ms) (long_then ns m cs more (omega (arith, all)))
+long_then (n ∷ ns) m (text bytes ∷ cs) more all = long_then ns m cs more (omega (arith, all))
+long_then (n ∷ ns) m (unknown ∷ cs) more all = long_then ns m cs more (omega (arith, all))
+long_then [] m (c ∷ cs) more all = absurd (omega (arith, all))
+long_then (n ∷ ns) m [] more all = absurd (omega (arith, all))
+
 count_then : (answers more : List Content) (k : ℕ) → fetches_after (length more) (fetches_after (length answers) k) ≡ fetches_after (length (answers ++ more)) k
 count_then [] more k = refl
 count_then (c ∷ cs) more k = count_then cs more _
@@ -133,6 +152,8 @@ module _ (roles : List Role) (names : List (List ℕ)) (q : Role) (m : List ℕ)
     short = short_then answers more f.short g.short;
     given = g.given ∙ ap (λ (fs : List (List ℕ × List ℕ)). fs ++ texts_given (m ∷ []) more) f.given ∙ append_assoc before.given (texts_given names answers) (texts_given (m ∷ []) more)
         ∙ ap (λ (fs : List (List ℕ × List ℕ)). before.given ++ fs) (sym (given_then names m answers more all));
+    long_names = g.long_names ∙ ap (λ (ns : List (List ℕ)). ns ++ long_among (m ∷ []) more) f.long_names ∙ append_assoc before.long (long_among names answers) (long_among (m ∷ []) more)
+        ∙ ap (λ (ns : List (List ℕ)). before.long ++ ns) (sym (long_then names m answers more all));
     same = g.same ∙ f.same;
     told = if_both before.told (λ folder. AreTold folder roles names answers) (λ folder. AreTold folder (q ∷ []) (m ∷ []) more) (λ folder. AreTold folder (roles ++ q ∷ []) (names ++ m ∷ []) (answers ++ more))
         (λ folder a b. told_then folder roles names q m answers more same all a b) f.told (subst (λ (o : Option Folder). IfSome o (λ folder. AreTold folder (q ∷ []) (m ∷ []) more)) f.same g.told);
@@ -198,6 +219,10 @@ given_none : (names : List (List ℕ)) → texts_given names [] ≡ []
 given_none [] = refl
 given_none (n ∷ ns) = refl
 
+long_none : (names : List (List ℕ)) → long_among names [] ≡ []
+long_none [] = refl
+long_none (n ∷ ns) = refl
+
 -- What holds of each holds of what there may be.
 pub if_any : {X : Type 0} (o : Option X) (B : X → Type 0) → ((x : X) → B x) → IfSome o B
 if_any None B f = tt
@@ -210,6 +235,7 @@ none_fetched names files same = record {
   failed = ap (λ (f : FilesState). f.failed) same ∙ sym (append-nil files.old.failed) ∙ ap (λ (ns : List (List ℕ)). files.old.failed ++ ns) (sym (missed_none names));
   short = tt;
   given = ap (λ (f : FilesState). f.given) same ∙ sym (append-nil files.old.given) ∙ ap (λ (fs : List (List ℕ × List ℕ)). files.old.given ++ fs) (sym (given_none names));
+  long_names = ap (λ (f : FilesState). f.long) same ∙ sym (append-nil files.old.long) ∙ ap (λ (ns : List (List ℕ)). files.old.long ++ ns) (sym (long_none names));
   same = ap (λ (f : FilesState). f.told) same;
   told = if_any files.old.told (λ folder. AreTold folder [] names []) (λ folder. told_none folder names);
 }

@@ -51,6 +51,15 @@ texts_given (n ∷ ns) (long ∷ cs) = texts_given ns cs
 texts_given (n ∷ ns) (text bytes ∷ cs) = (n, bytes) ∷ texts_given ns cs
 texts_given (n ∷ ns) (unknown ∷ cs) = texts_given ns cs
 
+-- The names of files that are longer than their limit.
+abbrev pub long_among : List (List ℕ) → List Content → List (List ℕ)
+long_among [] cs = []
+long_among (n ∷ ns) [] = []
+long_among (n ∷ ns) (gone ∷ cs) = long_among ns cs
+long_among (n ∷ ns) (long ∷ cs) = n ∷ long_among ns cs
+long_among (n ∷ ns) (text bytes ∷ cs) = long_among ns cs
+long_among (n ∷ ns) (unknown ∷ cs) = long_among ns cs
+
 -- Some file cannot be had.
 abbrev pub has_gone : List Content → Bool
 has_gone [] = false
@@ -71,13 +80,14 @@ AreShort [] = Unit {0}
 AreShort (c ∷ cs) = IsShort c × AreShort cs
 
 -- The first files of these roles and names were fetched, in order, with these answers: as many fetches were made as there
--- are answers, the names of those that failed were noted, the texts among the answers are what the fetches gave, and the files
--- tell what they told. No text is long.
+-- are answers, the names of those that failed were noted, the texts among the answers are what the fetches gave, those that are
+-- too long are what they told to be, and the files tell what they told. No text is long.
 pub record AreFetched (roles : List Role) (names : List (List ℕ)) (answers : List Content) (files : Change FilesState) : Type 0 where
   pub few : length answers ≤ length names
   pub count : files.new.fetches ≡ fetches_after (length answers) files.old.fetches
   pub failed : files.new.failed ≡ files.old.failed ++ missed names answers
   pub given : files.new.given ≡ files.old.given ++ texts_given names answers
+  pub long_names : files.new.long ≡ files.old.long ++ long_among names answers
   pub short : AreShort answers
   pub same : files.new.told ≡ files.old.told
   pub told : IfSome files.old.told (λ folder. AreTold folder roles names answers)

@@ -5,6 +5,7 @@ pub mod Fetched
 pub mod Limits
 pub mod Made
 pub mod Numbers
+pub mod Outside
 pub mod ReadSteps
 pub mod Readings
 pub mod Refusals

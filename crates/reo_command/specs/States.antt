@@ -7,12 +7,13 @@ pub record SinkState : Type 0 where
   pub told : Option (List ℕ)
   pub faults : ℕ
 
--- Files: what they are, where they are told, the names whose fetch failed, the names and bytes of those that were given, and the
--- count of fetches.
+-- Files: what they are, where they are told, the names whose fetch failed, the names and bytes of those that were given, the
+-- names of those that are longer than their limit, and the count of fetches.
 pub record FilesState : Type 0 where
   pub told : Option Folder
   pub failed : List (List ℕ)
   pub given : List (List ℕ × List ℕ)
+  pub long : List (List ℕ)
   pub fetches : ℕ
 
 -- The state before a call, and the one after it.
@@ -28,8 +29,8 @@ sink_change told faults a b = record {
 }
 
 -- Files before and after a call.
-abbrev pub files_change : {F : Type 0} → (F → Option Folder) → (F → List (List ℕ)) → (F → List (List ℕ × List ℕ)) → (F → ℕ) → F → F → Change FilesState
-files_change told failed given fetches a b = record {
-  old = record { told = told a; failed = failed a; given = given a; fetches = fetches a };
-  new = record { told = told b; failed = failed b; given = given b; fetches = fetches b };
+abbrev pub files_change : {F : Type 0} → (F → Option Folder) → (F → List (List ℕ)) → (F → List (List ℕ × List ℕ)) → (F → List (List ℕ)) → (F → ℕ) → F → F → Change FilesState
+files_change told failed given long fetches a b = record {
+  old = record { told = told a; failed = failed a; given = given a; long = long a; fetches = fetches a };
+  new = record { told = told b; failed = failed b; given = given b; long = long b; fetches = fetches b };
 }

@@ -31,7 +31,7 @@ fn read_lines<F: Files>(
 ) -> Result<Trace, Stop>
     requires { AreTold ports.now.list }
     ensures read { IsTraceRead ports.now.list (name.now ∷ [])
-        (files_change F.told F.failed F.given F.fetches files.old files.new) result }
+        (files_change F.told F.failed F.given F.long F.fetches files.old files.new) result }
     ensures text { IfOk result (HasText ports.now.list) }
 {
     let text = fetch(alloc, Role::Trace, name, files)?;
@@ -59,7 +59,7 @@ pub fn read_claim<F: Files>(
         (claimed_in claim.work.flat claim.work.script claim.trace))
         StopsVerify (roles.Circuit ∷ roles.Script ∷ roles.Trace ∷ [])
         (circuit.now ∷ script.now ∷ trace.now ∷ [])
-        (files_change F.told F.failed F.given F.fetches files.old files.new) result }
+        (files_change F.told F.failed F.given F.long F.fetches files.old files.new) result }
     ensures fit { IfOk result (λ claim.
         CanRun (map port_state_of claim.work.flat.circuit.primitives)
         claim.work.flat.circuit.ports claim.work.flat.ports.list claim.work.script.components) }
@@ -78,7 +78,7 @@ pub fn read_claim<F: Files>(
 /// The bytes of the file of a proof, or what stops the command.
 fn read_bytes<F: Files>(alloc: Global, name: &[u8], files: &mut F) -> Result<Bytes, Stop>
     ensures { IsProofRead (name.now ∷ [])
-        (files_change F.told F.failed F.given F.fetches files.old files.new) result }
+        (files_change F.told F.failed F.given F.long F.fetches files.old files.new) result }
 {
     fetch(alloc, Role::Proof, name, files)
 }
@@ -104,7 +104,7 @@ pub fn read_proof<F: Files>(
         (claimed_in claim.work.flat claim.work.script claim.proof))
         StopsProof (roles.Circuit ∷ roles.Script ∷ roles.Proof ∷ [])
         (circuit.now ∷ script.now ∷ proof.now ∷ [])
-        (files_change F.told F.failed F.given F.fetches files.old files.new) result }
+        (files_change F.told F.failed F.given F.long F.fetches files.old files.new) result }
     ensures fit { IfOk result (λ claim.
         CanRun (map port_state_of claim.work.flat.circuit.primitives)
         claim.work.flat.circuit.ports claim.work.flat.ports.list claim.work.script.components) }

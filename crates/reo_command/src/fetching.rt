@@ -18,7 +18,7 @@ pub(crate) fn fetch<F: Files>(
     files: &mut F,
 ) -> Result<Bytes, Stop>
     ensures fetched { AreFetched (role ∷ []) (name.now ∷ []) (answer_of result ∷ [])
-        (files_change F.told F.failed F.given F.fetches files.old files.new) }
+        (files_change F.told F.failed F.given F.long F.fetches files.old files.new) }
     ensures stop { IsFetchStop role result }
     ensures short { AreShort (answer_of result ∷ []) }
     ensures size { IfOk result (λ bytes. length bytes ≤ most_bytes role) }

@@ -25,7 +25,7 @@ use std::alloc::Global;
 /// The program of either version that a file says, or what stops the command.
 pub fn read_program<F: Files>(alloc: Global, name: &[u8], files: &mut F) -> Result<AnyProgram, Stop>
     ensures { IsReadFrom ReadsProgram StopsPrint (roles.Circuit ∷ []) (name.now ∷ [])
-        (files_change F.told F.failed F.given F.fetches files.old files.new) result }
+        (files_change F.told F.failed F.given F.long F.fetches files.old files.new) result }
 {
     let text = fetch(alloc, Role::Circuit, name, files)?;
     program_of(alloc, text.as_slice())
@@ -36,7 +36,7 @@ pub fn read_program<F: Files>(alloc: Global, name: &[u8], files: &mut F) -> Resu
 pub fn read_flat<F: Files>(alloc: Global, name: &[u8], files: &mut F) -> Result<Flat, Stop>
     ensures read { IsReadFrom (λ answers flat. ReadsCircuit answers (circuit_in flat))
         StopsCheck (roles.Circuit ∷ []) (name.now ∷ [])
-        (files_change F.told F.failed F.given F.fetches files.old files.new) result }
+        (files_change F.told F.failed F.given F.long F.fetches files.old files.new) result }
     ensures homes { IfOk result (λ flat. length flat.homes ≡ length flat.circuit.joints) }
     ensures ports { IfOk result (λ flat. HasItsPorts flat.circuit flat.ports.list) }
 {
@@ -53,7 +53,7 @@ fn read_components<F: Files>(
 ) -> Result<Script, Stop>
     requires { ArePortsOf ports.now.list }
     ensures read { IsScriptRead ports.now.list (name.now ∷ [])
-        (files_change F.told F.failed F.given F.fetches files.old files.new) result }
+        (files_change F.told F.failed F.given F.long F.fetches files.old files.new) result }
     ensures fit { IfOk result (λ script.
         FitPorts ports.now.list (map written_out script.components)) }
 {
@@ -78,7 +78,7 @@ pub fn read_run<F: Files>(
 ) -> Result<CircuitAndScript, Stop>
     ensures read { IsReadFrom (λ answers work. ReadsRun answers (runnable_in work.flat work.script))
         StopsRun (roles.Circuit ∷ roles.Script ∷ []) (circuit.now ∷ script.now ∷ [])
-        (files_change F.told F.failed F.given F.fetches files.old files.new) result }
+        (files_change F.told F.failed F.given F.long F.fetches files.old files.new) result }
     ensures fit { IfOk result (λ work. CanRun (map port_state_of work.flat.circuit.primitives)
         work.flat.circuit.ports work.flat.ports.list work.script.components) }
     ensures told { IfOk result (λ work. AreTold work.flat.ports.list) }

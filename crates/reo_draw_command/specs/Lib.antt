@@ -1,4 +1,5 @@
 pub mod Words
+pub mod Done
 pub mod DrawStatuses
 pub mod Drawn
 pub mod Tabled

@@ -59,7 +59,7 @@ pub(crate) fn draw_circuit<F: Files, S: Sink>(
 ) -> Status
     ensures answered { IsAnswered false (owed_by ReadsCircuit StopsCheck DrawsCircuit)
         (roles.Circuit ∷ []) (name.now ∷ [])
-        (files_change F.told F.failed F.given F.fetches files.old files.new)
+        (files_change F.told F.failed F.given F.long F.fetches files.old files.new)
         (sink_change S.told S.faults out.old out.new) result.code }
     ensures status { IsAmong statuses_of_circuit result.code }
     ensures fair { IsFair (sink_change S.told S.faults out.old out.new) result.code }

@@ -34,7 +34,7 @@ pub fn draw<F: Files, S: Sink>(
     out: &mut S,
 ) -> Status
     ensures answer { Answered words.now
-        (files_change F.told F.failed F.given F.fetches files.old files.new)
+        (files_change F.told F.failed F.given F.long F.fetches files.old files.new)
         (sink_change S.told S.faults out.old out.new) result.code }
     ensures status { IsAmong (statuses_for (drawing_of words.now)) result.code }
     ensures fair { IsFair (sink_change S.told S.faults out.old out.new) result.code }

@@ -76,7 +76,7 @@ pub(crate) fn draw_table<F: Files, S: Sink>(
     ensures answered { IsAnswered false (owed_by ReadsClaim StopsVerify TablesTrace)
         (roles.Circuit ∷ roles.Script ∷ roles.Trace ∷ [])
         (circuit.now ∷ script.now ∷ trace.now ∷ [])
-        (files_change F.told F.failed F.given F.fetches files.old files.new)
+        (files_change F.told F.failed F.given F.long F.fetches files.old files.new)
         (sink_change S.told S.faults out.old out.new) result.code }
     ensures status { IsAmong statuses_of_table result.code }
     ensures fair { IsFair (sink_change S.told S.faults out.old out.new) result.code }

@@ -46,3 +46,8 @@ fetches_after (suc more) count = fetches_after more ((count + 1) % 2 ^ 64)
 abbrev pub failed_after : List (List ℕ) → List ℕ → {T : Type 0} → Result T FetchFault → List (List ℕ)
 failed_after failed name (Err Failed) = failed ++ name ∷ []
 failed_after failed name _ = failed
+
+-- The names of the files that are longer than the limit, after a fetch of this name.
+abbrev pub long_after : List (List ℕ) → List ℕ → {T : Type 0} → Result T FetchFault → List (List ℕ)
+long_after long name (Err TooLong) = long ++ name ∷ []
+long_after long name _ = long

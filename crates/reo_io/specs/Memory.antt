@@ -1,7 +1,7 @@
 -- What the objects in memory hold.
 use Rattle.std.specs.Prelude.{ℕ, List, None}
 use Rattle.reo_io.specs.Fetches.{Folder}
-use Rattle.reo_io.specs.Given.{bytes_given, files_given}
+use Rattle.reo_io.specs.Given.{bytes_given, empties_given, files_given, names_given}
 use Rattle.reo_io.specs.declared.failing_calls.FailingCalls.{FailingCalls}
 use Rattle.reo_io.specs.declared.memory_files.MemoryFiles.{MemoryFiles}
 use Rattle.reo_io.specs.declared.memory_sink.MemorySink.{MemorySink}
@@ -19,6 +19,10 @@ files_failed files = files.failed
 abbrev pub files_given_so : MemoryFiles → List (List ℕ × List ℕ)
 files_given_so files = files_given files.given
 
+-- The names of the files that are longer than their limit.
+abbrev pub files_long : MemoryFiles → List (List ℕ)
+files_long files = names_given files.long
+
 -- How many fetches there were.
 abbrev pub files_fetches : MemoryFiles → ℕ
 files_fetches files = files.fetches
@@ -34,6 +38,10 @@ source_left source = source.bytes
 -- The bytes that it gave.
 abbrev pub source_given : MemorySource → List ℕ
 source_given source = bytes_given source.given
+
+-- How often it gave no byte.
+abbrev pub source_ends : MemorySource → ℕ
+source_ends source = empties_given source.given
 
 -- The most bytes that one call takes.
 abbrev pub source_piece : MemorySource → ℕ

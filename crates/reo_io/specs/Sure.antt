@@ -1,7 +1,7 @@
 -- What the objects that never fail hold.
 use Rattle.std.specs.Prelude.{ℕ, List, [], Option, Some, None, if◌then◌else◌}
 use Rattle.reo_io.specs.Fetches.{Folder}
-use Rattle.reo_io.specs.Given.{bytes_given, files_given}
+use Rattle.reo_io.specs.Given.{bytes_given, empties_given, files_given, names_given}
 use Rattle.reo_io.specs.declared.sure_files.SureFiles.{SureFiles}
 use Rattle.reo_io.specs.declared.sure_sink.SureSink.{SureSink}
 use Rattle.reo_io.specs.declared.sure_source.SureSource.{SureSource}
@@ -14,6 +14,10 @@ sure_files files = record { files = files.files; others = Some [] }
 abbrev pub sure_files_given : SureFiles → List (List ℕ × List ℕ)
 sure_files_given files = files_given files.given
 
+-- The names of the files that are longer than their limit.
+abbrev pub sure_files_long : SureFiles → List (List ℕ)
+sure_files_long files = names_given files.long
+
 -- How many fetches there were.
 abbrev pub sure_fetches : SureFiles → ℕ
 sure_fetches files = files.fetches
@@ -25,6 +29,10 @@ sure_left source = source.bytes
 -- The bytes that a source gave.
 abbrev pub sure_given : SureSource → List ℕ
 sure_given source = bytes_given source.given
+
+-- How often a source gave no byte.
+abbrev pub sure_ends : SureSource → ℕ
+sure_ends source = empties_given source.given
 
 -- The bytes that a sink has kept.
 abbrev pub sure_kept : SureSink → List ℕ

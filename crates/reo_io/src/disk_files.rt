@@ -2,11 +2,11 @@
 ghost use Rattle.std.specs.Prelude.{◌≡◌, ◌<◌, ◌^◌, []};
 
 use crate::failed_names::note;
+use crate::opening::open;
 use crate::reading::read_file;
-use crate::{FetchFault, Files, GivenFiles};
+use crate::{FetchFault, Files, GivenFiles, GivenNames};
 use reo_values::{Bytes, List};
 use std::alloc::Global;
-use std::fs::File;
 use std::{io, rt};
 
 /// The files of the system, whose content is not told before it is fetched. A name that is no text,
@@ -17,35 +17,43 @@ pub struct DiskFiles<'a, R: rt::Files> {
     failed: List<Bytes>,
     fetches: u64,
     given: GivenFiles,
+    long: GivenNames,
+    opened: GivenNames,
 }
 
 impl<'a, R: rt::Files> DiskFiles<'a, R> {
-    ghost use Rattle.reo_io.specs.Real.{disk_failed, disk_given};
+    ghost use Rattle.reo_io.specs.Real.{disk_failed, disk_given, disk_long, disk_opened};
 
     /// The files of this system. No fetch has failed yet.
     pub fn new(alloc: Global, system: &'a R) -> Self
         ensures failed { disk_failed result ≡ [] }
         ensures given { disk_given result ≡ [] }
+        ensures long { disk_long result ≡ [] }
+        ensures opened { disk_opened result ≡ [] }
     {
         DiskFiles {
             system,
             failed: List::new(alloc),
             fetches: 0,
             given: GivenFiles::new(),
+            long: GivenNames::new(),
+            opened: GivenNames::new(),
         }
     }
 }
 
 impl<R: rt::Files> Files for DiskFiles<'_, R> {
-    ghost use Rattle.reo_io.specs.Fetches.{Fetches, Holds, failed_after, fetches_after};
+    ghost use Rattle.reo_io.specs.Fetches.{Fetches, Holds, failed_after, fetches_after, long_after};
     ghost use Rattle.reo_io.specs.Given.{given_after};
-    ghost use Rattle.reo_io.specs.Real.{WasRead, disk_failed, disk_fetches, disk_given, disk_told};
+    ghost use Rattle.reo_io.specs.Real.{Opens, WasRead, disk_failed, disk_fetches, disk_given, disk_long, disk_opened, disk_told};
 
     ghost told = { disk_told };
 
     ghost failed = { disk_failed };
 
     ghost given = { disk_given };
+
+    ghost long = { disk_long };
 
     ghost fetches = { disk_fetches };
 
@@ -61,17 +69,19 @@ impl<R: rt::Files> Files for DiskFiles<'_, R> {
         ensures size { Holds limit room.new result }
         ensures bytes { Fetches (disk_told self.old) name.now limit room.new result }
         ensures cause { disk_failed self.new ≡ failed_after (disk_failed self.old) name.now result }
+        ensures long { disk_long self.new ≡ long_after (disk_long self.old) name.now result }
         ensures given { disk_given self.new ≡ given_after
             (disk_given self.old) name.now room.new result }
         ensures counted { disk_fetches self.new ≡ fetches_after 1 (disk_fetches self.old) }
         ensures told_same { disk_told self.new ≡ disk_told self.old }
+        ensures opened { Opens (disk_opened self.old) (disk_opened self.new) name.now result }
         ensures read { WasRead R.File.remaining limit room.new result }
     {
         self.fetches = self.fetches.wrapping_add(1);
         let Ok(path) = str::from_utf8(name) else {
             return Err(note(alloc, &mut self.failed, name));
         };
-        let mut file = match File::open(self.system, path) {
+        let mut file = match open(self.system, path, &mut self.opened) {
             Ok(file) => file,
             Err(fault) if fault.kind() == io::ErrorKind::OutOfMemory => {
                 return Err(FetchFault::NoMemory);
@@ -84,7 +94,11 @@ impl<R: rt::Files> Files for DiskFiles<'_, R> {
                 Ok(())
             }
             Err(FetchFault::Failed) => Err(note(alloc, &mut self.failed, name)),
-            Err(fault) => Err(fault),
+            Err(FetchFault::TooLong) => {
+                self.long = self.long.then(name);
+                Err(FetchFault::TooLong)
+            }
+            Err(FetchFault::NoMemory) => Err(FetchFault::NoMemory),
         }
     }
 }

@@ -24,7 +24,7 @@ pub struct Named {
 
 /// Gives files by their names.
 pub trait Files {
-    ghost use Rattle.reo_io.specs.Fetches.{Folder, Fetches, Holds, failed_after, fetches_after};
+    ghost use Rattle.reo_io.specs.Fetches.{Folder, Fetches, Holds, failed_after, fetches_after, long_after};
     ghost use Rattle.reo_io.specs.Given.{given_after};
 
     /// The files, where they are told.
@@ -35,6 +35,9 @@ pub trait Files {
 
     /// The names and bytes of the files whose fetch answered `Ok`, in that order.
     ghost given: { Self → List (List ℕ × List ℕ) };
+
+    /// The names whose fetch answered `TooLong`, in that order.
+    ghost long: { Self → List (List ℕ) };
 
     /// How many fetches there were, modulo 2^64.
     ghost fetches: { Self → ℕ };
@@ -54,6 +57,7 @@ pub trait Files {
         ensures size { Holds limit room.new result }
         ensures bytes { Fetches (told self.old) name.now limit room.new result }
         ensures cause { failed self.new ≡ failed_after (failed self.old) name.now result }
+        ensures long { long self.new ≡ long_after (long self.old) name.now result }
         ensures given { given self.new ≡ given_after (given self.old) name.now room.new result }
         ensures counted { fetches self.new ≡ fetches_after 1 (fetches self.old) }
         ensures told_same { told self.new ≡ told self.old };

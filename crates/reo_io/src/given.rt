@@ -43,6 +43,35 @@ impl GivenFiles {
     }
 }
 
+/// Names that were noted, one after another.
+#[derive(Drop)]
+pub struct GivenNames {
+    names: GivenFiles,
+}
+
+impl GivenNames {
+    ghost use Rattle.reo_io.specs.Given.{names_given};
+
+    /// No name yet.
+    pub fn new() -> GivenNames
+        ensures { names_given result ≡ [] }
+    {
+        GivenNames {
+            names: GivenFiles::new(),
+        }
+    }
+
+    /// These names, and then this one.
+    #[inline(always)]
+    pub fn then(&self, name: &[u8]) -> GivenNames
+        ensures { names_given result ≡ names_given self.now ++ name.now ∷ [] }
+    {
+        GivenNames {
+            names: self.names.then(name, b""),
+        }
+    }
+}
+
 /// Bytes that were given or taken, one after another.
 #[derive(Drop)]
 pub struct GivenBytes {
@@ -50,11 +79,12 @@ pub struct GivenBytes {
 }
 
 impl GivenBytes {
-    ghost use Rattle.reo_io.specs.Given.{bytes_given};
+    ghost use Rattle.reo_io.specs.Given.{bytes_given, empties_after, empties_given};
 
     /// No byte yet.
     pub fn new() -> GivenBytes
-        ensures { bytes_given result ≡ [] }
+        ensures bytes { bytes_given result ≡ [] }
+        ensures empties { empties_given result ≡ 0 }
     {
         GivenBytes {
             pieces: GivenFiles::new(),
@@ -64,7 +94,9 @@ impl GivenBytes {
     /// These bytes, and then those of the piece.
     #[inline(always)]
     pub fn then(&self, piece: &[u8]) -> GivenBytes
-        ensures { bytes_given result ≡ bytes_given self.now ++ piece.now }
+        ensures bytes { bytes_given result ≡ bytes_given self.now ++ piece.now }
+        ensures empties { empties_given result ≡ empties_after
+            (empties_given self.now) piece.now }
     {
         GivenBytes {
             pieces: self.pieces.then(b"", piece),

@@ -12,6 +12,7 @@ mod memory_files;
 mod memory_sink;
 mod memory_source;
 mod null_sink;
+mod opening;
 mod reading;
 mod remaining;
 mod sink;
@@ -24,7 +25,7 @@ mod sure_source;
 
 pub use disk_files::DiskFiles;
 pub use files::{FetchFault, Files, Named};
-pub use given::{GivenBytes, GivenFiles};
+pub use given::{GivenBytes, GivenFiles, GivenNames};
 pub use memory_files::MemoryFiles;
 pub use memory_sink::MemorySink;
 pub use memory_source::MemorySource;

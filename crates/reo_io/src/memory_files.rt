@@ -4,7 +4,7 @@ ghost use Rattle.std.specs.Prelude.{◌≡◌, ◌<◌, ◌+◌, ◌^◌, ◌⊎
 use crate::failed_names::note;
 use crate::failing_calls::FailingCalls;
 use crate::lookup::{find_file, give};
-use crate::{FetchFault, Files, GivenFiles, Named};
+use crate::{FetchFault, Files, GivenFiles, GivenNames, Named};
 use reo_values::{Bytes, List, NoMemory};
 use std::alloc::Global;
 
@@ -16,10 +16,11 @@ pub struct MemoryFiles {
     failed: List<Bytes>,
     fetches: u64,
     given: GivenFiles,
+    long: GivenNames,
 }
 
 impl MemoryFiles {
-    ghost use Rattle.reo_io.specs.Memory.{files_calls, files_failed, files_given_so, files_told};
+    ghost use Rattle.reo_io.specs.Memory.{files_calls, files_failed, files_given_so, files_long, files_told};
     ghost use Rattle.reo_io.specs.FailingCalls.{first_calls};
 
     /// These files; of two with one name the first counts. The fetches that `failing` numbers,
@@ -30,6 +31,7 @@ impl MemoryFiles {
             (λ made. files_told made ≡ record { files = files; others = None }) }
         ensures failed { IfOk result (λ made. files_failed made ≡ []) }
         ensures given { IfOk result (λ made. files_given_so made ≡ []) }
+        ensures long { IfOk result (λ made. files_long made ≡ []) }
         ensures calls { IfOk result (λ made. files_calls made ≡ first_calls failing) }
     {
         Ok(MemoryFiles {
@@ -38,15 +40,16 @@ impl MemoryFiles {
             failed: List::new(alloc),
             fetches: 0,
             given: GivenFiles::new(),
+            long: GivenNames::new(),
         })
     }
 }
 
 impl Files for MemoryFiles {
     ghost use Rattle.reo_io.specs.FailingCalls.{FailsNext, after_call};
-    ghost use Rattle.reo_io.specs.Fetches.{Fetches, Holds, failed_after, fetches_after, file_of};
+    ghost use Rattle.reo_io.specs.Fetches.{Fetches, Holds, failed_after, fetches_after, file_of, long_after};
     ghost use Rattle.reo_io.specs.Given.{given_after};
-    ghost use Rattle.reo_io.specs.Memory.{files_calls, files_failed, files_fetches, files_given_so, files_told};
+    ghost use Rattle.reo_io.specs.Memory.{files_calls, files_failed, files_fetches, files_given_so, files_long, files_told};
     ghost use Rattle.std.specs.Prelude.{Some};
 
     ghost told = { λ files. Some (files_told files) };
@@ -54,6 +57,8 @@ impl Files for MemoryFiles {
     ghost failed = { files_failed };
 
     ghost given = { files_given_so };
+
+    ghost long = { files_long };
 
     ghost fetches = { files_fetches };
 
@@ -70,6 +75,7 @@ impl Files for MemoryFiles {
         ensures bytes { Fetches (Some (files_told self.old)) name.now limit room.new result }
         ensures cause { files_failed self.new ≡ failed_after
             (files_failed self.old) name.now result }
+        ensures long { files_long self.new ≡ long_after (files_long self.old) name.now result }
         ensures given { files_given_so self.new ≡ given_after
             (files_given_so self.old) name.now room.new result }
         ensures counted { files_fetches self.new ≡ fetches_after 1 (files_fetches self.old) }
@@ -86,9 +92,13 @@ impl Files for MemoryFiles {
         }
         match find_file(self.files.as_slice(), name) {
             Some(bytes) => {
-                give(bytes.as_slice(), limit, room)?;
-                self.given = self.given.then(name, room.as_slice());
-                Ok(())
+                let given = give(bytes.as_slice(), limit, room);
+                match given {
+                    Ok(()) => self.given = self.given.then(name, room.as_slice()),
+                    Err(FetchFault::TooLong) => self.long = self.long.then(name),
+                    Err(_) => {}
+                }
+                given
             }
             None => Err(note(alloc, &mut self.failed, name)),
         }

@@ -22,7 +22,7 @@ pub struct MemorySource {
 
 impl MemorySource {
     ghost use Rattle.reo_io.specs.FailingCalls.{first_calls};
-    ghost use Rattle.reo_io.specs.Memory.{source_calls, source_faults, source_given, source_left, source_piece};
+    ghost use Rattle.reo_io.specs.Memory.{source_calls, source_ends, source_faults, source_given, source_left, source_piece};
 
     /// A source of these bytes, of which one call gives at most `piece`. The calls that `failing`
     /// numbers, from 1, fail.
@@ -38,6 +38,7 @@ impl MemorySource {
         ensures piece { IfOk result (λ source. source_piece source ≡ piece) }
         ensures calls { IfOk result (λ source. source_calls source ≡ first_calls failing) }
         ensures given { IfOk result (λ source. source_given source ≡ []) }
+        ensures ends { IfOk result (λ source. source_ends source ≡ 0) }
         ensures faults { IfOk result (λ source. source_faults source ≡ 0) }
     {
         Ok(MemorySource {
@@ -59,12 +60,14 @@ impl MemorySource {
 
 impl Source for MemorySource {
     ghost use Rattle.reo_io.specs.FailingCalls.{FailsNext, after_call};
-    ghost use Rattle.reo_io.specs.Given.{taken_after};
-    ghost use Rattle.reo_io.specs.Memory.{source_calls, source_faults, source_given, source_left, source_piece};
+    ghost use Rattle.reo_io.specs.Given.{ends_after, taken_after};
+    ghost use Rattle.reo_io.specs.Memory.{source_calls, source_ends, source_faults, source_given, source_left, source_piece};
 
     ghost told = { λ source. Some (source_left source) };
 
     ghost given = { source_given };
+
+    ghost ends = { source_ends };
 
     ghost faults = { source_faults };
 
@@ -75,6 +78,8 @@ impl Source for MemorySource {
             (Some (source_left self.new)) room.new result }
         ensures given { source_given self.new ≡ taken_after
             (source_given self.old) room.new result }
+        ensures ended { source_ends self.new ≡ ends_after
+            (source_ends self.old) room.new result }
         ensures cause { HasCause (source_faults self.old) (source_faults self.new) result }
         ensures count { IfOk result
             (λ count. count ≡ min (length (source_left self.old))

@@ -12,13 +12,16 @@ pub enum SourceFault {
 
 /// Gives bytes, one after another.
 pub trait Source {
-    ghost use Rattle.reo_io.specs.Given.{taken_after};
+    ghost use Rattle.reo_io.specs.Given.{ends_after, taken_after};
 
     /// The bytes left, where the source tells them.
     ghost told: { Self → Option (List ℕ) };
 
     /// The bytes that it gave, one after another.
     ghost given: { Self → List ℕ };
+
+    /// How often a take has answered that no byte is left.
+    ghost ends: { Self → ℕ };
 
     /// How often the source has failed. It never falls, and rises only where a call answers
     /// `Failed`.
@@ -31,5 +34,6 @@ pub trait Source {
         ensures bound { IfOk result (λ count. count ≤ length room.new) }
         ensures bytes { Takes (told self.old) (told self.new) room.new result }
         ensures given { given self.new ≡ taken_after (given self.old) room.new result }
+        ensures ended { ends self.new ≡ ends_after (ends self.old) room.new result }
         ensures cause { HasCause (faults self.old) (faults self.new) result };
 }

@@ -16,12 +16,13 @@ pub struct StdSource<R> {
 }
 
 impl<R: Read> StdSource<R> {
-    ghost use Rattle.reo_io.specs.Real.{reader_faults, reader_given, reader_of};
+    ghost use Rattle.reo_io.specs.Real.{reader_ends, reader_faults, reader_given, reader_of};
 
     /// The source over this reader, which has not failed yet.
     pub fn new(reader: R) -> Self
         ensures reader { reader_of result ≡ reader }
         ensures given { reader_given result ≡ [] }
+        ensures ends { reader_ends result ≡ 0 }
         ensures faults { reader_faults result ≡ 0 }
     {
         StdSource {
@@ -33,12 +34,14 @@ impl<R: Read> StdSource<R> {
 }
 
 impl<R: Read> Source for StdSource<R> {
-    ghost use Rattle.reo_io.specs.Given.{taken_after};
-    ghost use Rattle.reo_io.specs.Real.{reader_faults, reader_given, reader_of};
+    ghost use Rattle.reo_io.specs.Given.{ends_after, taken_after};
+    ghost use Rattle.reo_io.specs.Real.{reader_ends, reader_faults, reader_given, reader_of};
 
     ghost told = { λ _. None };
 
     ghost given = { reader_given };
+
+    ghost ends = { reader_ends };
 
     ghost faults = { reader_faults };
 
@@ -48,6 +51,8 @@ impl<R: Read> Source for StdSource<R> {
         ensures bytes { Takes None None room.new result }
         ensures given { reader_given self.new ≡ taken_after
             (reader_given self.old) room.new result }
+        ensures ended { reader_ends self.new ≡ ends_after
+            (reader_ends self.old) room.new result }
         ensures cause { HasCause (reader_faults self.old) (reader_faults self.new) result }
         ensures faults { reader_faults self.new ≡ faults_after (reader_faults self.old) result }
         // the call is one read of the reader, where it says what its reads give

@@ -16,12 +16,13 @@ pub struct SureSource {
 }
 
 impl SureSource {
-    ghost use Rattle.reo_io.specs.Sure.{sure_given, sure_left};
+    ghost use Rattle.reo_io.specs.Sure.{sure_ends, sure_given, sure_left};
 
     /// A source of these bytes.
     pub fn new(_alloc: Global, bytes: Bytes) -> Result<Self, NoMemory>
         ensures made { IsOk result }
         ensures given { IfOk result (λ source. sure_given source ≡ []) }
+        ensures ends { IfOk result (λ source. sure_ends source ≡ 0) }
         ensures left { IfOk result (λ source. sure_left source ≡ bytes) }
     {
         Ok(SureSource {
@@ -39,12 +40,14 @@ impl SureSource {
 }
 
 impl Source for SureSource {
-    ghost use Rattle.reo_io.specs.Given.{taken_after};
-    ghost use Rattle.reo_io.specs.Sure.{sure_given, sure_left};
+    ghost use Rattle.reo_io.specs.Given.{ends_after, taken_after};
+    ghost use Rattle.reo_io.specs.Sure.{sure_ends, sure_given, sure_left};
 
     ghost told = { λ source. Some (sure_left source) };
 
     ghost given = { sure_given };
+
+    ghost ends = { sure_ends };
 
     ghost faults = { λ _. 0 };
 
@@ -55,6 +58,8 @@ impl Source for SureSource {
             (Some (sure_left self.new)) room.new result }
         ensures given { sure_given self.new ≡ taken_after
             (sure_given self.old) room.new result }
+        ensures ended { sure_ends self.new ≡ ends_after
+            (sure_ends self.old) room.new result }
         ensures cause { HasCause 0 0 result }
         ensures count { result ≡ Ok (min (length (sure_left self.old)) (length room.old)) }
     {

@@ -1,5 +1,5 @@
 -- What hearing a source has written, as what is owed.
-use Rattle.std.proofs.Common.{◌≡◌, ◌∙◌, inl, inr, ℕ, ◌≤◌, ◌<◌, Bool, true, false, cond, List, [], ◌∷◌, ◌++◌, ◌+◌, length, take, sym, subst, ap, append_assoc, refl, arith}
+use Rattle.std.proofs.Common.{◌≡◌, ◌∙◌, ◌⊎◌, inl, inr, ℕ, ◌≤◌, ◌<◌, Bool, true, false, cond, List, [], ◌∷◌, ◌++◌, ◌+◌, length, take, sym, subst, ap, append_assoc, refl, arith}
 use Rattle.std.proofs.lemmas.Bool.{cases_order}
 use Rattle.std.proofs.lemmas.Grind.{flat_map-append}
 use Rattle.std.proofs.lemmas.List.{append-nil}
@@ -17,7 +17,7 @@ use Rattle.reo_command.specs.Readings.{kind_rules, FlatCircuit}
 use Rattle.reo_live.specs.declared.base.answer.Answer.{Answer}
 use Rattle.reo_live.specs.base.Live.{Live, beginning}
 use Rattle.reo_live.specs.base.Answers.{answer_text, answers_text}
-use Rattle.reo_live.specs.closings.Sources.{SourceChange, Events, most_events}
+use Rattle.reo_live.specs.closings.Sources.{SourceChange, Events, followed, most_events}
 use Rattle.reo_live.specs.closings.Closings.{Closing, many, missed, Closes}
 use Rattle.reo_live.specs.closings.Laws.{ClosingIsOne}
 use Rattle.reo_live.specs.declared.hearing.heard.Heard.{Heard}
@@ -27,9 +27,9 @@ use Rattle.reo_command.specs.States.{SinkState, Change}
 use Rattle.reo_command.specs.top_base.Cases.{AreFirstLines, Cases, IsExact, IsFair, TellsFaults, Refuses, SaysNoMemory}
 use Rattle.reo_top.specs.Closed.{Says, IsClosedAs}
 use Rattle.reo_command.specs.top_base.Outputs.{IsLine}
-use Rattle.reo_top.specs.Heard.{closing_text, closing_status, HearsCircuit, IsHeardOn, TakesFew}
+use Rattle.reo_top.specs.Heard.{closing_text, closing_status, HearsCircuit, IsHeardOn, IsOwed, TakesFew, TellsMisses}
 use Rattle.reo_top.proofs.AnswerTexts.{answers_end}
-use Rattle.reo_command.proofs.top_base.CaseLemmas.{line_cases, line_written, lines_cases}
+use Rattle.reo_command.proofs.top_base.CaseLemmas.{line_cases, line_code, line_written, lines_cases}
 use Rattle.reo_top.proofs.ClosingStatuses.{last_is, status_last, text_last}
 use Rattle.reo_command.proofs.top_base.LineLemmas.{Ends}
 
@@ -63,11 +63,6 @@ module _ (budget : ℕ) (flat : FlatCircuit) (events : Events) where
     pub whole_exact : Refuses (text_of answers ++ closing_text closing) (closing_status closing answers) sink code → IsExact (HearsCircuit budget events flat) sink code
     whole_exact h = λ bytes status owed. line_written sink code (text_of answers ++ closing_text closing) (closing_status closing answers) h bytes status (the_line bytes status owed)
 
-  -- What was written, and what is owed for it.
-  pub record IsOwed (sink : Change SinkState) (code : ℕ) : Type 0 where
-    pub cases : Cases (HearsCircuit budget events flat) sink code
-    pub exact : IsExact (HearsCircuit budget events flat) sink code
-
   module _ (one : ClosingIsOne kind_rules) (order : HasOrder (net_of behaviour_of flat.wiring)) (old mid new : SinkState) (code : ℕ) (later : old.faults ≤ mid.faults) where
     abbrev whole_sink : Change SinkState
     whole_sink = record { old = old; new = new }
@@ -75,13 +70,13 @@ module _ (budget : ℕ) (flat : FlatCircuit) (events : Events) where
     abbrev rest_sink : Change SinkState
     rest_sink = record { old = mid; new = new }
 
-    owed_line : (closing : Closing) (answers : List Answer) → Comes closing answers → Refuses (text_of answers ++ closing_text closing) (closing_status closing answers) whole_sink code → IsOwed whole_sink code
+    owed_line : (closing : Closing) (answers : List Answer) → Comes closing answers → Refuses (text_of answers ++ closing_text closing) (closing_status closing answers) whole_sink code → IsOwed budget flat events whole_sink code
     owed_line closing answers closes h = record {
       cases = whole_cases whole_sink code one order closing answers closes h;
       exact = whole_exact whole_sink code one order closing answers closes h;
     }
 
-    last_owed : (stop : Bool) → HeardLast kind_rules flat.ports budget flat.wiring old.told mid.told events stop → Says (cond stop 7 0) rest_sink code → IsOwed whole_sink code
+    last_owed : (stop : Bool) → HeardLast kind_rules flat.ports budget flat.wiring old.told mid.told events stop → Says (cond stop 7 0) rest_sink code → IsOwed budget flat events whole_sink code
     last_owed stop h says =
         let answers : List Answer = h.front ++ h.last ∷ [] in
         let text : text_of answers ≡ text_of answers ++ closing_text h.closing = sym (append-nil (text_of answers)) ∙ ap (λ (z : List ℕ). text_of answers ++ z) (sym (text_last h.closing h.is_last)) in
@@ -90,14 +85,14 @@ module _ (budget : ℕ) (flat : FlatCircuit) (events : Events) where
         owed_line h.closing answers h.closes (inl (status, subst (λ (z : List ℕ). Appended old.told new.told z) text told))
 
     all_owed : (closing : Closing) → (line : List ℕ) (status : ℕ) → closing_text closing ≡ line → ((answers : List Answer) → closing_status closing answers ≡ status)
-        → HeardAll kind_rules flat.ports budget flat.wiring old.told mid.told events closing → Refuses line status rest_sink code → IsOwed whole_sink code
+        → HeardAll kind_rules flat.ports budget flat.wiring old.told mid.told events closing → Refuses line status rest_sink code → IsOwed budget flat events whole_sink code
     all_owed closing line status text_is status_is h refuses =
         let behind : Refuses (text_of h.answers ++ line) status whole_sink code = line_behind old mid new code status (text_of h.answers) line later h.text refuses in
         owed_line closing h.answers h.closes
         (subst (λ (k : ℕ). Refuses (text_of h.answers ++ closing_text closing) k whole_sink code) (sym (status_is h.answers))
         (subst (λ (z : List ℕ). Refuses (text_of h.answers ++ z) status whole_sink code) (sym text_is) behind))
 
-    broken_owed : Rose old.faults mid.faults → HeardPart kind_rules flat.ports budget flat.wiring old.told mid.told events → Says 9 rest_sink code → IsOwed whole_sink code
+    broken_owed : Rose old.faults mid.faults → HeardPart kind_rules flat.ports budget flat.wiring old.told mid.told events → Says 9 rest_sink code → IsOwed budget flat events whole_sink code
     broken_owed rose h says = record {
       cases = inr (inl (record {
         bytes = text_of h.answers ++ closing_text h.closing;
@@ -122,7 +117,7 @@ module _ (budget : ℕ) (flat : FlatCircuit) (events : Events) where
           ends = ends;
         }
 
-    memory_owed : HeardLines kind_rules flat.ports budget flat.wiring old.told mid.told events → (code ≡ 10) × SaysNoMemory rest_sink → IsOwed whole_sink code
+    memory_owed : HeardLines kind_rules flat.ports budget flat.wiring old.told mid.told events → (code ≡ 10) × SaysNoMemory rest_sink → IsOwed budget flat events whole_sink code
     memory_owed h says = record {
       cases = elim (answers_end flat.ports h.lines) [
         | inl none ↦ lines_cases (HearsCircuit budget events flat) whole_sink mid code (text_of h.lines) later (inl none) h.text says
@@ -132,7 +127,7 @@ module _ (budget : ℕ) (flat : FlatCircuit) (events : Events) where
     }
 
     pub is_owed : (heard : Heard) → IsHeard kind_rules flat.ports budget flat.wiring old.told mid.told events heard → (heard ≡ heards.Broken → Rose old.faults mid.faults)
-        → IsClosedAs heard rest_sink code → IsOwed whole_sink code
+        → IsClosedAs heard rest_sink code → IsOwed budget flat events whole_sink code
     is_owed heards.Ended h cause closed = last_owed false h closed
     is_owed heards.Stopped h cause closed = last_owed true h closed
     is_owed heards.Many h cause closed = all_owed many (codes "too long events\n") 4 refl (λ answers. refl) h closed
@@ -221,13 +216,29 @@ few_taken source sink code heards.Missed took closed = record { bytes = took.byt
 few_taken source sink code heards.Broken took closed = record { bytes = took.bytes; taken = took.taken; few = took.few; long = λ four. absurd (omega (arith, closed.0, four)) }
 few_taken source sink code heards.NoMemory took closed = record { bytes = took.bytes; taken = took.taken; few = took.few; long = λ four. absurd (omega (arith, closed.0, four)) }
 
+-- Where a take failed the status says so.
+misses_said : (source : SourceChange) (sink : Change SinkState) (code : ℕ) (heard : Heard) → heard ≡ heards.Missed → IsClosedAs heard sink code → (code ≡ 3) ⊎ (code ≡ 9)
+misses_said source sink code heard is closed =
+    line_code sink code (codes "read fault events\n") 3 (subst (λ (x : Heard). IsClosedAs x sink code) is closed)
+
 -- What hearing a source has come to.
 pub heard_on : (budget : ℕ) (flat : FlatCircuit) (source : SourceChange) (old mid new : SinkState) (code : ℕ) (heard : Heard) → ClosingIsOne kind_rules → HasOrder (net_of behaviour_of flat.wiring)
     → old.faults ≤ mid.faults → HeardFrom kind_rules flat.ports budget flat.wiring old.told mid.told source heard → (heard ≡ heards.Broken → Rose old.faults mid.faults)
-    → IsClosedAs heard (record { old = mid; new = new }) code → IsHeardOn budget flat source (record { old = old; new = new }) code
-heard_on budget flat source old mid new code heard one order later from cause closed =
+    → (source.old.faults < source.new.faults → heard ≡ heards.Missed) → IsClosedAs heard (record { old = mid; new = new }) code → IsHeardOn budget flat source (record { old = old; new = new }) code
+heard_on budget flat source old mid new code heard one order later from cause when_missed closed =
     let owed = is_owed budget flat from.events one order old mid new code later heard from.come cause closed in
-    record { events = from.events; taken = from.taken; few = few_taken source (record { old = mid; new = new }) code heard from.few closed; cases = owed.cases; exact = owed.exact }
+    record {
+      events = from.events;
+      taken = from.taken;
+      few = few_taken source (record { old = mid; new = new }) code heard from.few closed;
+      misses = λ rose. misses_said source (record { old = mid; new = new }) code heard (when_missed rose) closed;
+      cases = owed.cases;
+      exact = owed.exact;
+      whatever = λ here. elim (from.whatever here) [
+        | inl said ↦ inl said
+        | inr any ↦ inr (λ more. is_owed budget flat (followed from.events more) one order old mid new code later heard (any more) cause closed)
+      ];
+    }
 
 -- On the circuit that was made.
 module _ (ports : List Port) (b : ℕ) (s : Live Kind) (budget : ℕ) (flat : FlatCircuit) (before mid : Option (List ℕ)) (source : SourceChange) (heard : Heard) where

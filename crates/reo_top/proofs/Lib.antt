@@ -4,6 +4,7 @@ pub mod CompleteLemmas
 pub mod HeadlineLemmas
 pub mod HeardLemmas
 pub mod MeasureLemmas
+pub mod OverLemmas
 pub mod StillLemmas
 pub mod TopLemmas
 pub mod UntakenLemmas

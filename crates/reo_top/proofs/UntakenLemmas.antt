@@ -15,22 +15,27 @@ still_left : (o : Option (List ℕ)) → IfSome o (λ (bytes : List ℕ). (left 
 still_left None = tt
 still_left (Some bytes) = (bytes, refl, refl)
 
-module _ {R : Type 0} (told : R → Option (List ℕ)) (given : R → List ℕ) (faults : R → ℕ) (source : R) where
-  pub none_taken : AreTaken (untaken (state_of told given faults source)) (source_change told given faults source source)
+none_untold : (o : Option (List ℕ)) → o ≡ None → unwrap_or o [] ≡ []
+none_untold None none = refl
+none_untold (Some bytes) none = absurd (cc)
+
+module _ {R : Type 0} (told : R → Option (List ℕ)) (given : R → List ℕ) (ends faults : R → ℕ) (source : R) where
+  pub none_taken : AreTaken (untaken (state_of told given ends faults source)) (source_change told given ends faults source source)
   none_taken = record {
     taken = [];
     rest = unwrap_or (told source) [];
     front = refl;
     fault = λ e. absurd (false≢true e);
+    untold = none_untold (told source);
     later = omega arith;
     given = sym (append-nil (given source));
     told = still_told (told source);
   }
 
-  pub none_taken_few : (code : ℕ) → TakesFew (source_change told given faults source source) code
+  pub none_taken_few : (code : ℕ) → TakesFew (source_change told given ends faults source source) code
   none_taken_few code = record {
     bytes = [];
-    taken = record { later = omega arith; given = sym (append-nil (given source)); told = still_left (told source) };
+    taken = record { later = omega arith; ends_later = omega arith; given = sym (append-nil (given source)); told = still_left (told source) };
     few = omega arith;
     long = λ four. inl refl;
   }

@@ -1,13 +1,13 @@
 -- What hearing a source owes.
-use Rattle.std.specs.Prelude.{ℕ, ◌≡◌, ◌⊎◌, ◌≤◌, ◌+◌, ◌++◌, Bool, false, cond, List, [], ◌∷◌, length, codes}
+use Rattle.std.specs.Prelude.{ℕ, ◌≡◌, ◌⊎◌, ◌<◌, ◌≤◌, ◌+◌, ◌++◌, Bool, false, cond, List, [], ◌∷◌, length, codes}
 use Rattle.reo_command.specs.Readings.{kind_rules, FlatCircuit}
 use Rattle.reo_live.specs.declared.base.answer.Answer.{Answer}
 use Rattle.reo_live.specs.base.Answers.{answers_text}
-use Rattle.reo_live.specs.closings.Sources.{SourceChange, Events, AreTaken, AreTakenSoFar, most_events}
+use Rattle.reo_live.specs.closings.Sources.{SourceChange, Events, AreTaken, AreTakenSoFar, SaidEnd, followed, most_events}
 use Rattle.reo_live.specs.closings.Closings.{Closing, over, many, missed, ends, Closes}
 use Rattle.reo_live.specs.hearing.Heard.{is_stop}
 use Rattle.reo_command.specs.States.{SinkState, Change}
-use Rattle.reo_command.specs.Statuses.{done, part_over, read_fault, too_long}
+use Rattle.reo_command.specs.Statuses.{done, part_over, read_fault, too_long, write_fault}
 use Rattle.reo_command.specs.top_base.Cases.{Cases, IsExact}
 use Rattle.reo_command.specs.top_base.Outputs.{Outputs, IsLine}
 
@@ -48,10 +48,23 @@ pub record TakesFew (source : SourceChange) (code : ℕ) : Type 0 where
   pub few : length bytes ≤ most_events + 1
   pub long : code ≡ too_long → (bytes ≡ []) ⊎ (length bytes ≡ most_events + 1)
 
--- Some events were taken from a source, and what is owed for them was written, and nothing else is.
+-- Where the source's count of faults has risen, the status says that it failed, or that the sink failed on the line that does.
+abbrev pub TellsMisses : SourceChange → ℕ → Type 0
+TellsMisses source code = source.old.faults < source.new.faults → (code ≡ read_fault) ⊎ (code ≡ write_fault)
+
+-- What is owed for these events was written, and nothing else is.
+pub record IsOwed (budget : ℕ) (flat : FlatCircuit) (events : Events) (sink : Change SinkState) (code : ℕ) : Type 0 where
+  pub cases : Cases (HearsCircuit budget events flat) sink code
+  pub exact : IsExact (HearsCircuit budget events flat) sink code
+
+-- Some events were taken from a source, and what is owed for them was written, and nothing else is: where no take failed and
+-- the source has not said that it ends, whatever may follow them.
 pub record IsHeardOn (budget : ℕ) (flat : FlatCircuit) (source : SourceChange) (sink : Change SinkState) (code : ℕ) : Type 0 where
   pub events : Events
   pub taken : AreTaken events source
   pub few : TakesFew source code
+  pub misses : TellsMisses source code
   pub cases : Cases (HearsCircuit budget events flat) sink code
   pub exact : IsExact (HearsCircuit budget events flat) sink code
+  pub whatever : events.failed ≡ false
+      → SaidEnd source ⊎ ((more : List ℕ) → IsOwed budget flat (followed events more) sink code)

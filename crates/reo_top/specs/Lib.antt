@@ -1,5 +1,6 @@
 pub mod Answers
 pub mod Complete
+pub mod Done
 pub mod Headline
 pub mod Measures
 pub mod Heard

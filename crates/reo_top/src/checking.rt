@@ -45,7 +45,7 @@ pub(crate) fn check_circuit<F: Files, S: Sink>(
     ensures answered { IsAnswered (is_free commands.Check)
         (owed_by ReadsCircuit StopsCheck ListsParts)
         (roles.Circuit ∷ []) (name.now ∷ [])
-        (files_change F.told F.failed F.given F.fetches files.old files.new)
+        (files_change F.told F.failed F.given F.long F.fetches files.old files.new)
         (sink_change S.told S.faults out.old out.new) result.code }
     ensures status { IsAmong (statuses_of commands.Check) result.code }
     ensures fair { IsFair (sink_change S.told S.faults out.old out.new) result.code }

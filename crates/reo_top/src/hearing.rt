@@ -52,7 +52,7 @@ fn hear_source<R: Source, S: Sink>(
     requires small { budget ≤ 10 ^ 9 }
     requires ports { HasItsPorts flat.circuit flat.ports.list }
     ensures heard { IsHeardOn budget (circuit_in flat)
-        (source_change R.told R.given R.faults source.old source.new)
+        (source_change R.told R.given R.ends R.faults source.old source.new)
         (sink_change S.told S.faults out.old out.new) result.code }
     ensures fair { IsFair (sink_change S.told S.faults out.old out.new) result.code }
     ensures tells { TellsFaults (sink_change S.told S.faults out.old out.new) result.code }
@@ -80,8 +80,8 @@ pub(crate) fn hear_events<F: Files, R: Source, S: Sink>(
     ensures answered { IsHeardAs (is_free commands.Live)
         (λ events. owed_by ReadsCircuit StopsCheck (HearsCircuit budget events))
         (roles.Circuit ∷ []) (name.now ∷ [])
-        (files_change F.told F.failed F.given F.fetches files.old files.new)
-        (source_change R.told R.given R.faults source.old source.new)
+        (files_change F.told F.failed F.given F.long F.fetches files.old files.new)
+        (source_change R.told R.given R.ends R.faults source.old source.new)
         (sink_change S.told S.faults out.old out.new) result.code }
     ensures status { IsAmong (statuses_of commands.Live) result.code }
     ensures fair { IsFair (sink_change S.told S.faults out.old out.new) result.code }

@@ -42,7 +42,7 @@ pub(crate) fn print_circuit<F: Files, S: Sink>(
     ensures answered { IsAnswered (is_free commands.Print)
         (owed_by ReadsProgram StopsPrint PrintsProgram)
         (roles.Circuit ∷ []) (name.now ∷ [])
-        (files_change F.told F.failed F.given F.fetches files.old files.new)
+        (files_change F.told F.failed F.given F.long F.fetches files.old files.new)
         (sink_change S.told S.faults out.old out.new) result.code }
     ensures status { IsAmong (statuses_of commands.Print) result.code }
     ensures fair { IsFair (sink_change S.told S.faults out.old out.new) result.code }
@@ -79,7 +79,7 @@ pub(crate) fn upgrade_circuit<F: Files, S: Sink>(
     ensures answered { IsAnswered (is_free commands.Upgrade)
         (owed_by ReadsProgram StopsPrint UpgradesProgram)
         (roles.Circuit ∷ []) (name.now ∷ [])
-        (files_change F.told F.failed F.given F.fetches files.old files.new)
+        (files_change F.told F.failed F.given F.long F.fetches files.old files.new)
         (sink_change S.told S.faults out.old out.new) result.code }
     ensures status { IsAmong (statuses_of commands.Upgrade) result.code }
     ensures fair { IsFair (sink_change S.told S.faults out.old out.new) result.code }

@@ -50,19 +50,19 @@ pub fn reo<F: Files, R: Source, S: Sink>(
     source: &mut R,
     out: &mut S,
 ) -> Status
-    ensures headline { let files = files_change F.told F.failed F.given F.fetches
+    ensures headline { let files = files_change F.told F.failed F.given F.long F.fetches
         files.old files.new in
         Headline words.now files (sink_change S.told S.faults out.old out.new) result.code }
-    ensures complete { let files = files_change F.told F.failed F.given F.fetches
+    ensures complete { let files = files_change F.told F.failed F.given F.long F.fetches
         files.old files.new in
         Complete words.now files (sink_change S.told S.faults out.old out.new) result.code }
-    ensures answer { let files = files_change F.told F.failed F.given F.fetches
+    ensures answer { let files = files_change F.told F.failed F.given F.long F.fetches
         files.old files.new in
-        let source = source_change R.told R.given R.faults source.old source.new in
+        let source = source_change R.told R.given R.ends R.faults source.old source.new in
         let sink = sink_change S.told S.faults out.old out.new in
         Answered words.now files source sink result.code }
     ensures honest { IsHonest words.now (sink_change S.told S.faults out.old out.new) result.code }
-    ensures inputs { let files = files_change F.told F.failed F.given F.fetches
+    ensures inputs { let files = files_change F.told F.failed F.given F.long F.fetches
         files.old files.new in
         KeepsInputs words.now files source.old source.new }
 {

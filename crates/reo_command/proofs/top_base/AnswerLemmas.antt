@@ -116,7 +116,7 @@ module _ {X : Type 0} (Reads : List Content → X → Type 0) (Stops : List Cont
     made_exact false exact = λ bytes status owed. exact bytes status (of_made bytes status owed)
 
     -- A take failed, where the status says so.
-    made_answered_with : (failed free : Bool) → IsExactFor free (Makes x) sink code → (code ≡ 3 → (failed || has_gone answers) ≡ true)
+    abbrev made_answered_with : (failed free : Bool) → IsExactFor free (Makes x) sink code → (code ≡ 3 → (failed || has_gone answers) ≡ true)
         → (roles : List Role) (names : List (List ℕ)) (files : Change FilesState) → AreFetched roles names answers files → IsAnsweredWith failed free (owed_by Reads Stops Makes) roles names files sink code
     made_answered_with failed free exact three roles names files fetched = record {
       answers = answers;
@@ -146,7 +146,7 @@ module _ {X : Type 0} (Reads : List Content → X → Type 0) (Stops : List Cont
     some_failed false gone is = absurd cc
 
     -- Where a take failed, what was made may say so.
-    pub heard_answered : (failed : Bool) → IsExact (Makes x) sink code → ((bytes : List ℕ) (status : ℕ) → Makes x bytes status → status ≡ 3 → failed ≡ true)
+    abbrev pub heard_answered : (failed : Bool) → IsExact (Makes x) sink code → ((bytes : List ℕ) (status : ℕ) → Makes x bytes status → status ≡ 3 → failed ≡ true)
         → (roles : List Role) (names : List (List ℕ)) (files : Change FilesState) → AreFetched roles names answers files → IsAnsweredWith failed false (owed_by Reads Stops Makes) roles names files sink code
     heard_answered failed exact is_three roles names files fetched =
         made_answered_with failed false exact

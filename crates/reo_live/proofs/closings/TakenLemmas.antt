@@ -1,13 +1,14 @@
 -- Bytes that were taken, piece by piece, and all that a source had.
-use Rattle.std.proofs.Common.{◌≡◌, ◌∙◌, ℕ, ◌≤◌, Bool, true, false, List, [], ◌∷◌, ◌++◌, take, sym, subst, ap, refl, arith, Result, Ok, Err}
+use Rattle.std.proofs.Common.{◌≡◌, ◌∙◌, ℕ, ◌+◌, ◌≤◌, Bool, true, false, List, [], ◌∷◌, ◌++◌, take, sym, subst, ap, refl, arith, Result, Ok, Err}
 use Rattle.std.specs.Prelude.{Option, Some, None, IfSome}
 use Rattle.std.specs.Option.{unwrap_or}
 use Rattle.std.proofs.lemmas.Bool.{true≢false, false≢true}
 use Rattle.std.proofs.lemmas.List.{append-nil, append_assoc}
 use Rattle.reo_io.specs.Causes.{Rose}
+use Rattle.reo_io.specs.Given.{empties_after}
 use Rattle.reo_io.specs.Sources.{Takes}
 use Rattle.reo_io.specs.declared.source.SourceFault.{SourceFault}
-use Rattle.reo_live.specs.closings.Sources.{SourceState, SourceChange, Events, AreTaken, AreTakenSoFar, IsTake}
+use Rattle.reo_live.specs.closings.Sources.{SourceState, SourceChange, Events, AreTaken, AreTakenSoFar, IsTake, SaidEnd}
 
 -- What a source told and tells.
 abbrev Left : Option (List ℕ) → Option (List ℕ) → List ℕ → Type 0
@@ -34,11 +35,20 @@ left_same fault (Some all) mid now bytes room h takes = (h.0, h.1, some_same fau
 some_end : (left : List ℕ) (mid now : Option (List ℕ)) (room : List ℕ) → mid ≡ Some left → Takes {E = SourceFault} mid now room (Ok 0) → left ≡ []
 some_end left mid now room mid_is takes = (subst (λ (o : Option (List ℕ)). Takes {E = SourceFault} o now room (Ok 0)) mid_is takes).3 refl
 
+-- A count of empty pieces does not fall.
+more_ends : (ends : ℕ) (piece : List ℕ) → ends ≤ empties_after ends piece
+more_ends ends [] = omega arith
+more_ends ends (byte ∷ bytes) = omega arith
+
+ends_on : (old mid new : ℕ) (piece : List ℕ) → old ≤ mid → new ≡ empties_after mid piece → old ≤ new
+ends_on old mid new piece first is = let next = more_ends mid piece in omega (arith, first, is, next)
+
 -- A source after a take, by what it told before.
 pub taken_more : (old mid new : SourceState) (bytes room : List ℕ) (count : ℕ) → AreTakenSoFar old mid bytes → IsTake {E = SourceFault} mid new room (Ok count) → mid.faults ≤ new.faults
     → AreTakenSoFar old new (bytes ++ take count room)
 taken_more old mid new bytes room count h takes more = let was = h.later in record {
   later = omega (arith, was, more);
+  ends_later = ends_on old.ends mid.ends new.ends (take count room) h.ends_later takes.2;
   given = takes.1 ∙ (ap (λ (g : List ℕ). g ++ take count room) h.given ∙ append_assoc old.given bytes (take count room));
   told = left_more old.told mid.told new.told bytes room count h.told takes.0;
 }
@@ -47,9 +57,14 @@ pub taken_same : (fault : SourceFault) (old mid new : SourceState) (bytes room :
     → AreTakenSoFar old new bytes
 taken_same fault old mid new bytes room h takes more = let was = h.later in record {
   later = omega (arith, was, more);
+  ends_later = subst (λ (n : ℕ). old.ends ≤ n) (sym takes.2) h.ends_later;
   given = takes.1 ∙ h.given;
   told = left_same fault old.told mid.told new.told bytes room h.told takes.0;
 }
+
+-- A source that gives no byte has said that it ends.
+pub said_end : (old mid new : SourceState) (bytes room : List ℕ) → AreTakenSoFar old mid bytes → IsTake {E = SourceFault} mid new room (Ok 0) → SaidEnd (record { old = old; new = new })
+said_end old mid new bytes room h takes = let was = h.ends_later in let is : new.ends ≡ mid.ends + 1 = takes.2 in omega (arith, was, is)
 
 -- All bytes that a source had, or those that were taken.
 abbrev pub all_of : Option (List ℕ) → List ℕ → Events
@@ -58,6 +73,11 @@ all_of told bytes = record { bytes = unwrap_or told bytes; failed = false }
 pub rest_of : (told now : Option (List ℕ)) (bytes : List ℕ) → Left told now bytes → (rest : List ℕ) × (unwrap_or told bytes ≡ bytes ++ rest)
 rest_of None now bytes h = ([], sym (append-nil bytes))
 rest_of (Some all) now bytes h = (h.0, h.1)
+
+rest_none : (told now : Option (List ℕ)) (bytes : List ℕ) (h : Left told now bytes) → told ≡ None → (rest_of told now bytes h).0 ≡ []
+unfolding rest_of
+rest_none None now bytes h none = refl
+rest_none (Some all) now bytes h none = absurd (cc)
 
 whole_told : (told now : Option (List ℕ)) (bytes : List ℕ) → Left told now bytes
     → IfSome told (λ all. (left : List ℕ) × (all ≡ bytes ++ left) × (now ≡ Some left) × (false ≡ false → unwrap_or told bytes ≡ all))
@@ -70,6 +90,7 @@ whole_taken old new bytes h = let found = rest_of old.told new.told bytes h.told
   rest = found.0;
   front = found.1;
   fault = λ e. absurd (false≢true e);
+  untold = rest_none old.told new.told bytes h.told;
   later = h.later;
   given = h.given;
   told = whole_told old.told new.told bytes h.told;
@@ -87,6 +108,7 @@ missed_taken old new bytes h rose = record {
   rest = [];
   front = sym (append-nil bytes);
   fault = λ e. (refl, rose);
+  untold = λ none. refl;
   later = h.later;
   given = h.given;
   told = missed_told old.told new.told bytes h.told;
@@ -108,6 +130,7 @@ ended_taken old mid new bytes room h takes more = let was = h.later in record {
   rest = [];
   front = sym (append-nil bytes);
   fault = λ e. absurd (false≢true e);
+  untold = λ none. refl;
   later = omega (arith, was, more);
   given = takes.1 ∙ (append-nil mid.given ∙ h.given);
   told = ended_told old.told mid.told new.told bytes room h.told takes.0;

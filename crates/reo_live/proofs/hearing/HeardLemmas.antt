@@ -1,6 +1,7 @@
 -- From pieces that were heard to what hearing a source has come to.
-use Rattle.std.proofs.Common.{◌≡◌, ◌∙◌, ℕ, ◌+◌, ◌-◌, ◌≤◌, Bool, true, false, List, [], ◌∷◌, ◌++◌, length, take, sym, subst, ap, refl, arith, Result, Ok, Err}
+use Rattle.std.proofs.Common.{inl, inr, ◌≡◌, ◌∙◌, ℕ, ◌+◌, ◌-◌, ◌≤◌, ◌<◌, Bool, true, false, List, [], ◌∷◌, ◌++◌, length, take, sym, subst, ap, refl, arith, Result, Ok, Err}
 use Rattle.std.proofs.lemmas.List.{append_assoc, length-append, length-take-le, take-append-le}
+use Rattle.std.proofs.lemmas.Bool.{true≢false}
 use Rattle.std.proofs.lemmas.Grind.{flat_map-append}
 use Rattle.std.specs.Prelude.{Option, IfOk}
 use Rattle.std.specs.Option.{unwrap_or}
@@ -19,15 +20,15 @@ use Rattle.reo_live.specs.base.Live.{Live, beginning}
 use Rattle.reo_live.specs.base.Answers.{answer_text, answers_text}
 use Rattle.reo_live.specs.base.Hearing.{After, Last}
 use Rattle.reo_live.specs.base.Laws.{CutsChangeNothing, HearingExists}
-use Rattle.reo_live.specs.closings.Sources.{SourceState, Events, AreTaken, IsTake, most_events}
-use Rattle.reo_live.specs.closings.Closings.{Closing, over, ends, Closes}
+use Rattle.reo_live.specs.closings.Sources.{SourceState, Events, AreTaken, IsTake, followed, most_events}
+use Rattle.reo_live.specs.closings.Closings.{Closing, over, many, ends, Closes}
 use Rattle.reo_live.specs.declared.hearing.heard.Heard.{Heard}
 use Rattle.reo_live.specs.declared.hearing.heard.Heard.TheVariants as heards
-use Rattle.reo_live.specs.hearing.Heard.{IsFew, TookFew, IsHeard, HeardFrom, SoFar, IsNext, HeardLast, HeardPart, HeardLines}
+use Rattle.reo_live.specs.hearing.Heard.{IsFew, TookFew, IsHeard, HeardFrom, SoFar, IsNext, HeardAll, HeardLast, HeardPart, HeardLines}
 use Rattle.reo_live.specs.hearing.Pieces.{Wrote, WroteLast, WrotePart, WroteLines, ComesTo, ComesSomewhere, IsPiece, EndsPiece, IsClose}
 use Rattle.reo_live.proofs.closings.Taking.{take_both}
 use Rattle.reo_live.proofs.closings.ClosingLemmas.{closes_over, goes_on}
-use Rattle.reo_live.proofs.closings.TakenLemmas.{all_of, rest_of, taken_more, taken_same, whole_taken, missed_taken, ended_taken}
+use Rattle.reo_live.proofs.closings.TakenLemmas.{all_of, rest_of, taken_more, taken_same, whole_taken, missed_taken, ended_taken, said_end}
 
 -- The lines of some answers and of more.
 text_more : (ports : List Port) (x y : List Answer) → answers_text ports (x ++ y) ≡ answers_text ports x ++ answers_text ports y
@@ -75,22 +76,28 @@ module _ {P : Type 0} (r : Rules P) (ports : List Port) (budget : ℕ) (cuts : C
   pub all_heard : IsTake {E = SourceFault} at new room (Ok count) → AreTaken (all_of old.told (far.bytes ++ take count room)) (record { old = old; new = new })
   all_heard takes = whole_taken old new (far.bytes ++ take count room) (taken_more old at new far.bytes room count far.taken takes later)
 
-  all_cut : IsTake {E = SourceFault} at new room (Ok count)
-      → (more : List ℕ) × (take most_events (unwrap_or old.told (far.bytes ++ take count room)) ≡ take most_events (far.bytes ++ take count room) ++ more)
+  -- Events whose first bytes were heard.
+  abbrev Cut : Events → Type 0
+  Cut events = (more : List ℕ) × (take most_events events.bytes ≡ take most_events (far.bytes ++ take count room) ++ more)
+
+  cut_more : (events : Events) (more : List ℕ) → Cut events → Cut (followed events more)
+  cut_more events more cut =
+      let next : List ℕ = take (most_events - length events.bytes) more in
+      (cut.0 ++ next, take_both most_events events.bytes more ∙ (ap (λ (l : List ℕ). l ++ next) cut.1 ∙ append_assoc (take most_events (far.bytes ++ take count room)) cut.0 next))
+
+  all_cut : IsTake {E = SourceFault} at new room (Ok count) → Cut (all_of old.told (far.bytes ++ take count room))
   all_cut takes =
       let bytes = far.bytes ++ take count room in
       let found = rest_of old.told new.told bytes (taken_more old at new far.bytes room count far.taken takes later).told in
       (take (most_events - length bytes) found.0, ap (λ (l : List ℕ). take most_events l) found.1 ∙ take_both most_events bytes found.0)
 
   -- A piece with which it is over.
-  pub piece_last : (t : Live P) (stop : Bool) → IsTake {E = SourceFault} at new room (Ok count)
+  pub piece_last : (t : Live P) (stop : Bool)
       → WroteLast ports mid now (ComesTo r ports budget mid now s (take (most_events - taken) (take count room)) t true) stop
-      → HeardLast r ports budget w before now (all_of old.told (far.bytes ++ take count room)) stop
-  piece_last t stop takes wrote =
+      → (events : Events) → Cut events → HeardLast r ports budget w before now events stop
+  piece_last t stop wrote events cut =
       let all : List Answer = wrote.front ++ wrote.last ∷ [] in
       let joined : far.answers ++ all ≡ (far.answers ++ wrote.front) ++ wrote.last ∷ [] = sym (append_assoc far.answers wrote.front (wrote.last ∷ [])) in
-      let cut = all_cut takes in
-      let events : Events = all_of old.told (far.bytes ++ take count room) in
       let closes = closes_over r ports budget cuts w events (take most_events (far.bytes ++ take count room)) cut.0 t (far.answers ++ all) cut.1 (then_heard t all wrote.come.0) wrote.come.1 in
       record {
         closing = over;
@@ -103,17 +110,16 @@ module _ {P : Type 0} (r : Rules P) (ports : List Port) (budget : ℕ) (cuts : C
       }
 
   module _ (exists : HearingExists r) (k : KeepsShape r) (order : HasOrder (net_of r.behaviour w)) where
-    goes : (t : Live P) (y : List Answer) → IsTake {E = SourceFault} at new room (Ok count) → After r ports budget s (take (most_events - taken) (take count room)) t y
-        → (closing : Closing) × (z : List Answer) × Closes r ports budget w (all_of old.told (far.bytes ++ take count room)) closing ((far.answers ++ y) ++ z)
-    goes t y takes after =
-        let cut = all_cut takes in
-        goes_on r ports budget cuts w exists k order (all_of old.told (far.bytes ++ take count room)) (take most_events (far.bytes ++ take count room)) cut.0 t (far.answers ++ y) cut.1 (then_heard t y after)
+    goes : (t : Live P) (y : List Answer) → After r ports budget s (take (most_events - taken) (take count room)) t y → (events : Events) → Cut events
+        → (closing : Closing) × (z : List Answer) × Closes r ports budget w events closing ((far.answers ++ y) ++ z)
+    goes t y after events cut =
+        goes_on r ports budget cuts w exists k order events (take most_events (far.bytes ++ take count room)) cut.0 t (far.answers ++ y) cut.1 (then_heard t y after)
 
     -- A piece on which the sink failed.
-    pub piece_part : IsTake {E = SourceFault} at new room (Ok count) → WrotePart ports mid now (ComesSomewhere r ports budget mid now s (take (most_events - taken) (take count room)))
-        → HeardPart r ports budget w before now (all_of old.told (far.bytes ++ take count room))
-    piece_part takes wrote =
-        let found = goes wrote.come.0 wrote.answers takes wrote.come.1 in
+    pub piece_part : WrotePart ports mid now (ComesSomewhere r ports budget mid now s (take (most_events - taken) (take count room)))
+        → (events : Events) → Cut events → HeardPart r ports budget w before now events
+    piece_part wrote events cut =
+        let found = goes wrote.come.0 wrote.answers wrote.come.1 events cut in
         record {
           closing = found.0;
           answers = (far.answers ++ wrote.answers) ++ found.1;
@@ -122,10 +128,10 @@ module _ {P : Type 0} (r : Rules P) (ports : List Port) (budget : ℕ) (cuts : C
         }
 
     -- A piece in which memory ran out.
-    pub piece_lines : IsTake {E = SourceFault} at new room (Ok count) → WroteLines ports mid now (ComesSomewhere r ports budget mid now s (take (most_events - taken) (take count room)))
-        → HeardLines r ports budget w before now (all_of old.told (far.bytes ++ take count room))
-    piece_lines takes wrote =
-        let found = goes wrote.come.0 (wrote.lines ++ wrote.rest) takes wrote.come.1 in
+    pub piece_lines : WroteLines ports mid now (ComesSomewhere r ports budget mid now s (take (most_events - taken) (take count room)))
+        → (events : Events) → Cut events → HeardLines r ports budget w before now events
+    piece_lines wrote events cut =
+        let found = goes wrote.come.0 (wrote.lines ++ wrote.rest) wrote.come.1 events cut in
         let one : far.answers ++ (wrote.lines ++ wrote.rest) ≡ (far.answers ++ wrote.lines) ++ wrote.rest = sym (append_assoc far.answers wrote.lines wrote.rest) in
         let joined : (far.answers ++ (wrote.lines ++ wrote.rest)) ++ found.1 ≡ (far.answers ++ wrote.lines) ++ (wrote.rest ++ found.1) =
         ap (λ (x : List Answer). x ++ found.1) one ∙ append_assoc (far.answers ++ wrote.lines) wrote.rest found.1 in
@@ -133,7 +139,7 @@ module _ {P : Type 0} (r : Rules P) (ports : List Port) (budget : ℕ) (cuts : C
           closing = found.0;
           lines = far.answers ++ wrote.lines;
           rest = wrote.rest ++ found.1;
-          closes = subst (λ (x : List Answer). Closes r ports budget w (all_of old.told (far.bytes ++ take count room)) found.0 x) joined found.2;
+          closes = subst (λ (x : List Answer). Closes r ports budget w events found.0 x) joined found.2;
           text = text_then ports before mid now far.answers wrote.lines far.text wrote.text;
         }
 
@@ -145,18 +151,21 @@ module _ {P : Type 0} (r : Rules P) (ports : List Port) (budget : ℕ) (cuts : C
       within : length (far.bytes ++ take count room) ≤ most_events + 1
       within = let is = count_more far.bytes room count taken far.count_is fits in omega (arith, is, few)
 
-      piece_from : (heard : Heard) → IsFew heard (length (far.bytes ++ take count room)) → IsHeard r ports budget w before now (all_of old.told (far.bytes ++ take count room)) heard
+      piece_from : (heard : Heard) → IsFew heard (length (far.bytes ++ take count room)) → ((events : Events) → Cut events → IsHeard r ports budget w before now events heard)
           → HeardFrom r ports budget w before now (record { old = old; new = new }) heard
-      piece_from heard is come = record { events = all_of old.told (far.bytes ++ take count room); taken = all_heard takes; few = piece_few heard is; come = come }
+      piece_from heard is come =
+          let all : Events = all_of old.told (far.bytes ++ take count room) in
+          let cut = all_cut takes in
+          record { events = all; taken = all_heard takes; few = piece_few heard is; come = come all cut; whatever = λ here. inr (λ more. come (followed all more) (cut_more all more cut)) }
 
       pub piece_over : (t : Live P) (heard : Heard) → EndsPiece r ports budget mid now s (take (most_events - taken) (take count room)) t heard
           → HeardFrom r ports budget w before now (record { old = old; new = new }) heard
-      piece_over t heards.Ended h = piece_from heards.Ended within (piece_last t false takes h)
-      piece_over t heards.Stopped h = piece_from heards.Stopped within (piece_last t true takes h)
+      piece_over t heards.Ended h = piece_from heards.Ended within (piece_last t false h)
+      piece_over t heards.Stopped h = piece_from heards.Stopped within (piece_last t true h)
       piece_over t heards.Many h = absurd h
       piece_over t heards.Missed h = absurd h
-      piece_over t heards.Broken h = piece_from heards.Broken within (piece_part takes h)
-      piece_over t heards.NoMemory h = piece_from heards.NoMemory within (piece_lines takes h)
+      piece_over t heards.Broken h = piece_from heards.Broken within (piece_part h)
+      piece_over t heards.NoMemory h = piece_from heards.NoMemory within (piece_lines h)
 
   -- What a piece has come to.
   pub piece_next : HearingExists r → KeepsShape r → (t : Live P) → count ≤ length room → taken + count ≤ most_events + 1 → IsTake {E = SourceFault} at new room (Ok count)
@@ -223,6 +232,7 @@ module _ {P : Type 0} (r : Rules P) (ports : List Port) (budget : ℕ) (w : Wiri
         taken = ended_taken old at new far.bytes room far.taken takes later;
         few = record { bytes = far.bytes ++ take 0 room; taken = taken_more old at new far.bytes room 0 far.taken takes later; few = is };
         come = close_heard heard h;
+        whatever = λ here. inl (said_end old at new far.bytes room far.taken takes);
       }
 
       pub close_over : (heard : Heard) → IsClose r ports budget mid now s heard → HeardFrom r ports budget w before now (record { old = old; new = new }) heard
@@ -248,9 +258,22 @@ module _ {P : Type 0} (r : Rules P) (ports : List Port) (budget : ℕ) (w : Wiri
           closes = record { state = s; heard = far.answers; after = far.after; by = (unspent, short few, refl, refl) };
           text = far.text;
         };
+        whatever = λ here. absurd (true≢false here);
       }
 
   -- There are too many bytes.
+  all_many : (events : Events) → take most_events events.bytes ≡ take most_events far.bytes → most_events < length events.bytes → HeardAll r ports budget w before mid events many
+  all_many events cut more = record {
+    answers = far.answers;
+    closes = record {
+      state = s;
+      heard = far.answers;
+      after = subst (λ (bytes : List ℕ). After r ports budget (beginning w) bytes s far.answers) (sym cut) far.after;
+      by = (unspent, more, refl);
+    };
+    text = far.text;
+  }
+
   pub many_over : taken ≡ most_events + 1 → HeardFrom r ports budget w before mid (record { old = old; new = at }) heards.Many
   many_over lot =
       let is = far.count_is in
@@ -258,18 +281,13 @@ module _ {P : Type 0} (r : Rules P) (ports : List Port) (budget : ℕ) (w : Wiri
       let size : length (unwrap_or old.told far.bytes) ≡ length far.bytes + length found.0 = ap (λ (l : List ℕ). length l) found.1 ∙ length-append far.bytes found.0 in
       let whole : most_events ≤ length far.bytes = omega (arith, is, lot) in
       let cut : take most_events (unwrap_or old.told far.bytes) ≡ take most_events far.bytes = ap (λ (l : List ℕ). take most_events l) found.1 ∙ take-append-le most_events far.bytes found.0 whole in
+      let longer : most_events < length (unwrap_or old.told far.bytes) = omega (arith, size, is, lot) in
       record {
         events = all_of old.told far.bytes;
         taken = whole_taken old at far.bytes far.taken;
         few = record { bytes = far.bytes; taken = far.taken; few = is ∙ lot };
-        come = record {
-          answers = far.answers;
-          closes = record {
-            state = s;
-            heard = far.answers;
-            after = subst (λ (bytes : List ℕ). After r ports budget (beginning w) bytes s far.answers) (sym cut) far.after;
-            by = (unspent, omega (arith, size, is, lot), refl);
-          };
-          text = far.text;
-        };
+        come = all_many (all_of old.told far.bytes) cut longer;
+        whatever = λ here. inr (λ more.
+            let both : length (unwrap_or old.told far.bytes ++ more) ≡ length (unwrap_or old.told far.bytes) + length more = length-append (unwrap_or old.told far.bytes) more in
+            all_many (followed (all_of old.told far.bytes) more) (take-append-le most_events (unwrap_or old.told far.bytes) more (omega (arith, longer)) ∙ cut) (omega (arith, longer, both)));
       }

@@ -1,5 +1,5 @@
 -- What hearing a source has come to.
-use Rattle.std.specs.Prelude.{ℕ, ◌≡◌, ◌≤◌, ◌+◌, ◌++◌, Bool, true, false, Option, List, [], ◌∷◌, length, take, Result, Ok, Err}
+use Rattle.std.specs.Prelude.{ℕ, ◌≡◌, ◌⊎◌, ◌≤◌, ◌+◌, ◌++◌, Bool, true, false, Option, List, [], ◌∷◌, length, take, Result, Ok, Err}
 use Rattle.reo_io.specs.Sinks.{Appended, TookPart}
 use Rattle.reo_net_base.specs.Net.{Wiring, net_of}
 use Rattle.reo_net_base.specs.declared.port.Port.{Port}
@@ -10,7 +10,7 @@ use Rattle.reo_live.specs.declared.base.answer.Answer.TheVariants as answers
 use Rattle.reo_live.specs.base.Live.{Live, beginning}
 use Rattle.reo_live.specs.base.Answers.{answers_text}
 use Rattle.reo_live.specs.base.Hearing.{After}
-use Rattle.reo_live.specs.closings.Sources.{SourceState, SourceChange, Events, AreTaken, AreTakenSoFar, most_events}
+use Rattle.reo_live.specs.closings.Sources.{SourceState, SourceChange, Events, AreTaken, AreTakenSoFar, SaidEnd, followed, most_events}
 use Rattle.reo_live.specs.closings.Closings.{Closing, over, many, missed, ends, Closes}
 use Rattle.reo_live.specs.declared.hearing.heard.Heard.{Heard}
 use Rattle.reo_live.specs.declared.hearing.heard.Heard.TheVariants as heards
@@ -84,12 +84,15 @@ module _ {P : Type 0} (r : Rules P) (ports : List Port) (budget : ℕ) (w : Wiri
   IsHeard events heards.Broken = HeardPart events
   IsHeard events heards.NoMemory = HeardLines events
 
-  -- Some events were taken from a source, and hearing them has come to this.
+  -- Some events were taken from a source, and hearing them has come to this: where no take failed and the source has not said
+  -- that it ends, whatever may follow them.
   pub record HeardFrom (source : SourceChange) (heard : Heard) : Type 0 where
     pub events : Events
     pub taken : AreTaken events source
     pub few : TookFew source heard
     pub come : IsHeard events heard
+    pub whatever : events.failed ≡ false
+        → SaidEnd source ⊎ ((more : List ℕ) → IsHeard (followed events more) heard)
 
   -- So many bytes were taken from a source that was so, and those that are heard were answered.
   pub record SoFar (old new : SourceState) (live : Live P) (count : ℕ) : Type 0 where

@@ -35,7 +35,7 @@ fn hear_next<P: Ported, R: Source, S: Sink>(
     requires taken { taken ≤ 2 ^ 32 }
     requires room { length room.old ≡ 65536 }
     ensures heard { let r = rules_of P.behaviour P.settled P.port_state P.placed P.withdrawn in
-        let change = source_change R.told R.given R.faults source.old source.new in
+        let change = source_change R.told R.given R.ends R.faults source.old source.new in
         GoesOn r live.old.ports live.old.budget (S.told out.old) (S.told out.new) change
         live.old.live taken live.new.live result }
     ensures some { IfOk result (λ count. 0 < count) }
@@ -80,7 +80,7 @@ pub fn hear<P: Ported, R: Source, S: Sink>(
     requires fresh { live.old.live ≡ beginning live.old.live.stand.circuit }
     requires order { HasOrder (net_of P.behaviour live.old.live.stand.circuit) }
     ensures heard { let r = rules_of P.behaviour P.settled P.port_state P.placed P.withdrawn in
-        let change = source_change R.told R.given R.faults source.old source.new in
+        let change = source_change R.told R.given R.ends R.faults source.old source.new in
         HeardFrom r live.old.ports live.old.budget live.old.live.stand.circuit
         (S.told out.old) (S.told out.new) change result }
     ensures missed { result ≡ heards.Missed → Rose (R.faults source.old) (R.faults source.new) }

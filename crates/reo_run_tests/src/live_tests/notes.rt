@@ -1,7 +1,7 @@
 //! A source and a sink that note their calls in one list.
 ghost use Rattle.std.specs.Prelude.{◌≡◌, ◌<◌, ◌≤◌, length, IfOk, None};
 ghost use Rattle.reo_io.specs.Causes.{HasCause};
-ghost use Rattle.reo_io.specs.Given.{bytes_given, taken_after};
+ghost use Rattle.reo_io.specs.Given.{bytes_given, empties_given, ends_after, taken_after};
 ghost use Rattle.reo_io.specs.Sinks.{Puts};
 ghost use Rattle.reo_io.specs.Sources.{Takes};
 
@@ -54,6 +54,8 @@ impl Source for NotingSource<'_> {
 
     ghost given = { λ source. bytes_given source.given };
 
+    ghost ends = { λ source. empties_given source.given };
+
     ghost faults = { λ source. source.faults };
 
     fn take(&mut self, room: &mut [u8]) -> Result<usize, SourceFault>
@@ -62,6 +64,8 @@ impl Source for NotingSource<'_> {
         ensures bytes { Takes None None room.new result }
         ensures given { bytes_given self.new.given ≡ taken_after
             (bytes_given self.old.given) room.new result }
+        ensures ended { empties_given self.new.given ≡ ends_after
+            (empties_given self.old.given) room.new result }
         ensures cause { HasCause self.old.faults self.new.faults result }
     {
         note(self.notes, b"take\n");

@@ -85,7 +85,7 @@ pub fn prove_circuit<F: Files, S: Sink>(
     ensures answered { IsAnswered (is_free commands.Prove)
         (owed_by ReadsRun StopsRun (ProvesRun usual_limits))
         (roles.Circuit ∷ roles.Script ∷ []) (circuit.now ∷ script.now ∷ [])
-        (files_change F.told F.failed F.given F.fetches files.old files.new)
+        (files_change F.told F.failed F.given F.long F.fetches files.old files.new)
         (sink_change S.told S.faults out.old out.new) result.code }
     ensures status { IsAmong (statuses_of commands.Prove) result.code }
     ensures fair { IsFair (sink_change S.told S.faults out.old out.new) result.code }

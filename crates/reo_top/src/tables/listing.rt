@@ -50,7 +50,7 @@ pub fn list_circuit<F: Files, S: Sink>(
     ensures answered { IsAnswered (is_free commands.Tables)
         (owed_by ReadsCircuit StopsCheck (ListsTables usual_limits.budget))
         (roles.Circuit ∷ []) (name.now ∷ [])
-        (files_change F.told F.failed F.given F.fetches files.old files.new)
+        (files_change F.told F.failed F.given F.long F.fetches files.old files.new)
         (sink_change S.told S.faults out.old out.new) result.code }
     ensures status { IsAmong (statuses_of commands.Tables) result.code }
     ensures fair { IsFair (sink_change S.told S.faults out.old out.new) result.code }

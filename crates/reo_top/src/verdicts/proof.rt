@@ -72,7 +72,7 @@ pub fn verify_proof_claim<F: Files, S: Sink>(
         (owed_by ReadsProof StopsProof JudgesProof)
         (roles.Circuit ∷ roles.Script ∷ roles.Proof ∷ [])
         (circuit.now ∷ script.now ∷ proof.now ∷ [])
-        (files_change F.told F.failed F.given F.fetches files.old files.new)
+        (files_change F.told F.failed F.given F.long F.fetches files.old files.new)
         (sink_change S.told S.faults out.old out.new) result.code }
     ensures status { IsAmong (statuses_of commands.VerifyProof) result.code }
     ensures fair { IsFair (sink_change S.told S.faults out.old out.new) result.code }

@@ -62,7 +62,7 @@ pub fn verify_claim<F: Files, S: Sink>(
         (owed_by ReadsClaim StopsVerify JudgesTrace)
         (roles.Circuit ∷ roles.Script ∷ roles.Trace ∷ [])
         (circuit.now ∷ script.now ∷ trace.now ∷ [])
-        (files_change F.told F.failed F.given F.fetches files.old files.new)
+        (files_change F.told F.failed F.given F.long F.fetches files.old files.new)
         (sink_change S.told S.faults out.old out.new) result.code }
     ensures status { IsAmong (statuses_of commands.Verify) result.code }
     ensures fair { IsFair (sink_change S.told S.faults out.old out.new) result.code }

@@ -9,7 +9,7 @@ abbrev pub invariant-hearing : goal.invariant-hearing
 invariant-hearing g l = record {
   far : SoFar (rules_of g.P.Primitive.behaviour g.P.Primitive.settled g.P.Ported.port_state g.P.Ported.placed g.P.Ported.withdrawn) l.fn.live.ports l.fn.live.budget
       l.fn.live.live.stand.circuit (g.S.Sink.told l.fn.out) (g.S.Sink.told l.out)
-      (state_of g.R.Source.told g.R.Source.given g.R.Source.faults l.fn.source) (state_of g.R.Source.told g.R.Source.given g.R.Source.faults l.source) l.live.live l.taken;
+      (state_of g.R.Source.told g.R.Source.given g.R.Source.ends g.R.Source.faults l.fn.source) (state_of g.R.Source.told g.R.Source.given g.R.Source.ends g.R.Source.faults l.source) l.live.live l.taken;
   unspent : l.live.live.stand.over ≡ false;
   lines : l.live.live.stand.lines ≤ l.taken;
   few : l.taken ≤ 2 ^ 32 + 1;

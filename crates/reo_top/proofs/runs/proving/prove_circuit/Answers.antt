@@ -29,7 +29,7 @@ returns-in-Ok-clause-answered g c =
     let made = freely_made ReadsRun StopsRun (ProvesRun limits) (statuses_of Prove) _ _ c.in-Ok.ensures.read.answers (reading_at run_reading _) r c.in-Ok.ensures.read.read c.write_proved.ensures.cases c.write_proved.ensures.exact (proved_not_three limits r)
     (Circuit ∷ Script ∷ []) (c.args.circuit.now ∷ c.args.script.now ∷ []) _ c.in-Ok.ensures.read.fetched in
     subst
-    (λ (l : Limits). IsAnswered true (owed_by ReadsRun StopsRun (ProvesRun l)) (Circuit ∷ Script ∷ []) (c.args.circuit.now ∷ c.args.script.now ∷ []) (files_change g.F.Files.told g.F.Files.failed g.F.Files.given g.F.Files.fetches c.args.files.now c.read_run.new.files)
+    (λ (l : Limits). IsAnswered true (owed_by ReadsRun StopsRun (ProvesRun l)) (Circuit ∷ Script ∷ []) (c.args.circuit.now ∷ c.args.script.now ∷ []) (files_change g.F.Files.told g.F.Files.failed g.F.Files.given g.F.Files.long g.F.Files.fetches c.args.files.now c.read_run.new.files)
     (sink_change g.S.Sink.told g.S.Sink.faults c.args.out.now c.write_proved.new.out) c.write_proved.result.code) c.usual_limits.ensures made
 
 pub returns-in-Ok-clause-status : goal.returns-in-Ok-clause-status

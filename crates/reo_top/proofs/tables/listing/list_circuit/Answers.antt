@@ -26,7 +26,7 @@ returns-in-Ok-clause-answered g c =
     let made = made_answered ReadsCircuit StopsCheck (ListsTables limits.budget) (statuses_of Tables) _ _ c.in-Ok.ensures.read.answers (reading_at tables_reading _) (circuit_in c.in-Ok.flat) c.in-Ok.ensures.read.read c.write_listing.ensures.cases c.write_listing.ensures.exact
     (tables_not_three limits.budget (circuit_in c.in-Ok.flat)) (Circuit ∷ []) (c.args.name.now ∷ []) _ c.in-Ok.ensures.read.fetched in
     subst
-    (λ (l : Limits). IsAnswered false (owed_by ReadsCircuit StopsCheck (ListsTables l.budget)) (Circuit ∷ []) (c.args.name.now ∷ []) (files_change g.F.Files.told g.F.Files.failed g.F.Files.given g.F.Files.fetches c.args.files.now c.read_flat.new.files)
+    (λ (l : Limits). IsAnswered false (owed_by ReadsCircuit StopsCheck (ListsTables l.budget)) (Circuit ∷ []) (c.args.name.now ∷ []) (files_change g.F.Files.told g.F.Files.failed g.F.Files.given g.F.Files.long g.F.Files.fetches c.args.files.now c.read_flat.new.files)
     (sink_change g.S.Sink.told g.S.Sink.faults c.args.out.now c.write_listing.new.out) c.write_listing.result.code) c.usual_limits.ensures made
 
 pub returns-in-Ok-clause-status : goal.returns-in-Ok-clause-status

@@ -5,7 +5,7 @@ use Rattle.std.specs.Iterator.Adapters.{skip_source, skip_count}
 use Rattle.std.proofs.lemmas.List.{map-id}
 use Rattle.std.proofs.lemmas.Iterator.Adapters.{YieldsList-from_vec, YieldsList-from_skip}
 use Rattle.std.proofs.lemmas.Iterator.Consumers.{YieldsList-end}
-use Rattle.reo.proofs.words_behind.Goals as goal
+use Rattle.reo_command.proofs.outside.words_behind.Goals as goal
 
 pub returns : goal.returns
 returns c =
