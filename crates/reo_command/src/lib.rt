@@ -16,7 +16,7 @@ mod setting;
 mod status;
 mod stop;
 mod texts;
-mod top_base;
+pub mod top_base;
 
 pub use amount::{Amount, size_of};
 pub use claim::{Claim, ProofClaim, read_claim, read_proof};

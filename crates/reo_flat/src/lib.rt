@@ -1,7 +1,7 @@
 //! What a program unfolds to: its nodes and channels, its ends and joints, and its flat circuit.
 #![tactic(auto)]
 
-mod flatten_laws;
+pub mod flatten_laws;
 mod sizes;
 
 pub use flatten_laws::{

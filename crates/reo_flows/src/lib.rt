@@ -1,8 +1,8 @@
 //! Items that flow, and steps.
 #![tactic(auto)]
 
-mod flowing;
-mod stepping;
+pub mod flowing;
+pub mod stepping;
 
 pub use flowing::{copy_over, put_flowing};
 pub use stepping::{mark_flowing, step_marked};

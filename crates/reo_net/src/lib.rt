@@ -5,7 +5,7 @@
 //! are compared and filled, the first one is found, it steps by it, and its ports take offers.
 #![tactic(auto)]
 
-mod colouring;
+pub mod colouring;
 mod plain;
 
 pub use colouring::{are_moves, colour, compare, fill, fill_with, fits, is_colouring};

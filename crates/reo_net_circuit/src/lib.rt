@@ -10,7 +10,7 @@ mod circuit;
 mod ends;
 mod fault;
 mod flows;
-mod found_ends;
+pub mod found_ends;
 mod groups;
 mod layout;
 mod parts;

@@ -6,7 +6,7 @@ mod cycles;
 mod ends;
 mod first;
 mod keys;
-mod state_laws;
+pub mod state_laws;
 
 pub use colourings::{
     each_part, jam_is_colouring, jams_whole, mix_is_colouring, one_colouring_for_rows,

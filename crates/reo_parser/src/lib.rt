@@ -9,7 +9,7 @@ mod laws;
 mod levels;
 mod programs;
 mod texts;
-mod two;
+pub mod two;
 mod two_laws;
 
 pub use channels::{held, held_list, is_plain, plain_channel};

@@ -1,9 +1,9 @@
 //! Logs that show that rows are first are judged and made.
 #![tactic(auto)]
 
-mod check;
+pub mod check;
 mod next;
-mod proving;
+pub mod proving;
 
 pub use check::check_proof;
 pub use next::next_line;

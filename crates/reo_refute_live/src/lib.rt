@@ -2,7 +2,7 @@
 #![tactic(auto)]
 
 mod live;
-mod support;
+pub mod support;
 mod table;
 mod trail;
 mod values;

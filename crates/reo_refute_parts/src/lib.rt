@@ -2,7 +2,7 @@
 #![tactic(auto)]
 
 mod lines;
-mod lists;
+pub mod lists;
 mod places;
 
 pub use lines::{Reader, line, put_line};

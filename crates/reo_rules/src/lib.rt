@@ -2,7 +2,7 @@
 #![tactic(auto)]
 
 mod fault;
-mod literals;
+pub mod literals;
 mod names;
 
 pub use fault::FlatFault;

@@ -9,8 +9,8 @@ mod round;
 mod runner;
 
 pub use at_ports::{
-    Carried, Engine, PlanFault, PlannedRound, MadeRound, advance_all, carry_on, carry_out,
-    offer_all, release_circuit, release_engine, release_players, release_run,
+    Engine, MadeRound, PlanFault, PlannedRound, carry_on, release_circuit, release_engine,
+    release_players, release_run,
 };
 pub use outcome::{End2, Limits, Outcome};
 pub use runner::run;

@@ -7,7 +7,7 @@ ghost use Rattle.reo_runner.specs.at_ports.Engines.{IsMadeWithin};
 ghost use Rattle.reo_runner.specs.Rounds.{IsUnplanned, fault_of_plan};
 ghost use Rattle.reo_runner.specs.declared.planning.RoundFault.TheVariants.{NoMemory as OutOfMemory};
 
-use crate::at_ports::{Engine, PlanFault, MadeRound};
+use crate::at_ports::{Engine, MadeRound, PlanFault};
 use reo_net_base::{Ported, Ports};
 use reo_steps::Steps;
 use reo_values::{Bytes, NoMemory};

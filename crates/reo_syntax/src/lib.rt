@@ -8,7 +8,7 @@ mod literal;
 mod program;
 mod spread;
 mod term;
-mod two;
+pub mod two;
 mod type_term;
 
 pub use item::{append_head, append_tail};

@@ -1,8 +1,8 @@
 //! Laws of circuit texts: each has one tree, and each tree a text.
 #![tactic(auto)]
 
-mod syntax_two_laws;
-mod trees_laws;
+pub mod syntax_two_laws;
+pub mod trees_laws;
 mod trees_two_laws;
 
 pub use syntax_two_laws::canonical_text_two_says_the_program;

@@ -9,7 +9,7 @@ mod printing;
 mod runs;
 mod tables;
 mod top;
-mod verdicts;
+pub mod verdicts;
 
 pub use inventory::parts_text;
 pub use reo_command::{Command, Setting, Status, command_of};

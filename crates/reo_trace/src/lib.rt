@@ -5,7 +5,7 @@
 //! then one line that says how the run ended.
 #![tactic(auto)]
 
-mod cells;
+pub mod cells;
 mod entries;
 mod idle;
 mod line;

@@ -9,7 +9,7 @@ mod moves;
 mod number;
 mod reader;
 mod reading;
-mod texts;
+pub mod texts;
 
 pub use reading::{read_line, read_trace};
 pub use reo_trace::{

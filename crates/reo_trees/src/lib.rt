@@ -10,7 +10,7 @@ mod items_two;
 mod laws;
 mod literal_copies;
 mod literals;
-mod loops;
+pub mod loops;
 mod programs;
 mod programs_two;
 mod term_copies;

@@ -9,7 +9,7 @@ mod append;
 mod boxed;
 mod bytes;
 mod copies;
-mod decimals;
+pub mod decimals;
 mod fault;
 mod filling;
 mod item_text;

@@ -6,7 +6,7 @@ mod bounds;
 mod fewer;
 mod numbers;
 mod over;
-mod still;
+pub mod still;
 mod weights;
 
 pub use bounds::{bounded_parts_are_within, few_items_stand, weight_is_at_most};

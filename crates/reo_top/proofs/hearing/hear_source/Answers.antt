@@ -1,4 +1,4 @@
-use Rattle.reo_runner.proofs.at_ports.Begun.{just_ports}
+use Rattle.reo_runs.proofs.at_ports.Begun.{just_ports}
 use Rattle.reo_live.specs.closings.Sources.{state_of, untaken, source_change}
 use Rattle.reo_command.specs.ReadSteps.{circuit_in}
 use Rattle.reo_command.specs.States.{SinkState}
