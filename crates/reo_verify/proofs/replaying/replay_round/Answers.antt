@@ -1,4 +1,4 @@
-use Rattle.std.proofs.Common.{◌≡◌, ◌∙◌, ◌+◌, ℕ, List, ap, sym, arith}
+use Rattle.std.proofs.Common.{◌∙◌, ◌+◌, ℕ, List, ap, sym, arith}
 use Rattle.reo_net_base.specs.Net.{Wiring}
 use Rattle.reo_rounds.specs.Rules.{rules_of}
 use Rattle.reo_rounds.specs.declared.plan.Plan.{Plan}
