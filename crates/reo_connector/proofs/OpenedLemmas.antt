@@ -1,6 +1,6 @@
 -- What an engine asks for of a circuit that was read.
 use Rattle.std.proofs.Common.{List, map}
-use Rattle.reo_runner.proofs.at_ports.Begun.{just_ports}
+use Rattle.reo_runs.proofs.at_ports.Begun.{just_ports}
 use Rattle.reo_command.specs.ReadSteps.{HasItsPorts}
 use Rattle.reo_kinds.specs.Kinds.{port_state_of}
 use Rattle.reo_kinds.specs.declared.kind.Kind.{Kind}

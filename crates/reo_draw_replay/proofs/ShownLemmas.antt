@@ -9,7 +9,7 @@ use Rattle.reo_trace.specs.declared.line.Ending.{Ending}
 use Rattle.reo_trace_reader.specs.declared.texts.trace.Trace.{Trace}
 use Rattle.reo_rounds.specs.Order.{HasOrder}
 use Rattle.reo_runs.specs.Run.{Place, IsRun}
-use Rattle.reo_runner.specs.at_ports.Kinds.{kind_rules}
+use Rattle.reo_runs.specs.at_ports.Kinds.{kind_rules}
 use Rattle.reo_runs.specs.declared.verdicts.verdict.Refusal.{Refusal}
 use Rattle.reo_runs.specs.declared.verdicts.verdict.Verdict.{Verdict}
 use Rattle.reo_runs.specs.declared.verdicts.verdict.Verdict.TheVariants as verdicts

@@ -6,7 +6,7 @@ use Rattle.reo_net_base.specs.Net.{Wiring}
 use Rattle.reo_kinds.specs.declared.kind.Kind.{Kind}
 use Rattle.reo_trace.specs.declared.line.RoundLine.{RoundLine}
 use Rattle.reo_runs.specs.Run.{Place}
-use Rattle.reo_runner.specs.at_ports.Kinds.{kind_rules}
+use Rattle.reo_runs.specs.at_ports.Kinds.{kind_rules}
 use Rattle.reo_draw_rounds.specs.Rounds.{round_picture}
 use Rattle.reo_draw_replay.specs.Rounds.{IsRound}
 

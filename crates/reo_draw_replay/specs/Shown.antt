@@ -4,7 +4,7 @@ use Rattle.reo_net_base.specs.declared.port.Port.{Port}
 use Rattle.reo_kinds.specs.declared.kind.Kind.{Kind}
 use Rattle.reo_trace_reader.specs.declared.texts.trace.Trace.{Trace}
 use Rattle.reo_runs.specs.Run.{Place, IsRun}
-use Rattle.reo_runner.specs.at_ports.Kinds.{kind_rules}
+use Rattle.reo_runs.specs.at_ports.Kinds.{kind_rules}
 use Rattle.reo_runs.specs.verdicts.Replays.{colourings}
 use Rattle.reo_runs.specs.verdicts.Verdicts.{IsRefused}
 use Rattle.reo_draw_replay.specs.declared.showing.Shown.{Shown}

@@ -1,4 +1,4 @@
--- Steps of a replay that draws a round.
+-- A round that is drawn while a trace is replayed.
 use Rattle.std.specs.Prelude.{ℕ, ◌≡◌, ◌+◌, ◌<◌, ◌≤◌, Bool, true, false, Option, Some, None, List, length}
 use Rattle.reo_net_base.specs.declared.colouring.Colouring.{Colouring}
 use Rattle.reo_net_base.specs.declared.port.Port.{Port}
@@ -8,22 +8,15 @@ use Rattle.reo_trace.specs.declared.line.RoundLine.{RoundLine}
 use Rattle.reo_trace.specs.declared.line.Ending.{Ending}
 use Rattle.reo_trace_reader.specs.declared.texts.trace.Trace.{Trace}
 use Rattle.reo_runs.specs.Run.{Place}
-use Rattle.reo_runner.specs.at_ports.Kinds.{kind_rules}
+use Rattle.reo_runs.specs.at_ports.Kinds.{kind_rules}
 use Rattle.reo_runs.specs.declared.verdicts.verdict.Refusal.TheVariants as refusals
 use Rattle.reo_verify.specs.judging.Ends.{IsEndOf}
 use Rattle.reo_verify.specs.judging.Judged.{IsColouringSaid}
-use Rattle.reo_verify.specs.Replayed.{IsCutOff}
 use Rattle.reo_draw_rounds.specs.Rounds.{round_picture}
-use Rattle.reo_draw_replay.specs.declared.replay.Halt.{Halt}
-use Rattle.reo_draw_replay.specs.declared.replay.Halt.TheVariants as halts
+use Rattle.reo_draw_replay.specs.declared.drawing.Drawing.{Drawing}
 use Rattle.reo_draw_replay.specs.declared.showing.Shown.{Shown}
 use Rattle.reo_draw_replay.specs.declared.showing.Shown.TheVariants as shown
 use Rattle.reo_draw_replay.specs.Drawn.{IsDrawn}
-
--- Some line is no round of a run, and this is the first that is wrong with it; or memory ran out.
-abbrev pub IsHalted : List (List ℕ) → List ℕ → Place Kind → List RoundLine → Halt → Type 0
-IsHalted nodes homes start lines (halts.Refused refusal) = IsCutOff kind_rules nodes homes start lines refusal
-IsHalted nodes homes start lines halts.NoMemory = Unit {0}
 
 module _ (ports : List Port) (nodes : List (List ℕ)) (homes : List ℕ) where
   -- The picture of a line is made where it is asked for, and else what there was stays.
@@ -37,6 +30,14 @@ module _ (ports : List Port) (nodes : List (List ℕ)) (homes : List ℕ) where
   abbrev pub IsDrawnWithin : Place Kind → List RoundLine → (count number : ℕ) → Option (List ℕ) → Type 0
   IsDrawnWithin start lines count number None = 1 ≤ number → count < number
   IsDrawnWithin start lines count number (Some picture) = IsDrawn ports nodes homes start lines number picture
+
+-- The picture of the round that was asked for, by the rounds that lines show from a start, or none where they have no such round; what is asked for stays.
+pub record HasDrawn (first : Drawing) (start : Place Kind) (lines : List RoundLine) (now : Drawing) : Type 0 where
+  pub ports : now.ports.now ≡ first.ports.now
+  pub nodes : now.nodes.now ≡ first.nodes.now
+  pub homes : now.homes.now ≡ first.homes.now
+  pub number : now.number ≡ first.number
+  pub drawn : IsDrawnWithin now.ports.now.list now.nodes.now now.homes.now start lines (length lines) now.number now.picture
 
 -- What there is to show of a trace all of whose lines are rounds of a run that is over so, or not over.
 abbrev pub IsShownAt : Option Ending → Option (List ℕ) → Trace → Shown → Type 0

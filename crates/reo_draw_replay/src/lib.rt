@@ -1,8 +1,8 @@
 //! A trace that is replayed to its end, with the picture of one of its rounds made on the way.
 #![tactic(auto)]
 
+mod drawing;
 mod laws;
-mod replay;
 mod showing;
 
 pub use laws::one_round;

@@ -2,14 +2,14 @@
 ghost use Rattle.std.specs.Prelude.{◌≡◌, IfOk, map};
 ghost use Rattle.reo_kinds.specs.Kinds.{port_state_of};
 ghost use Rattle.reo_runs.specs.Run.{start_of};
-ghost use Rattle.reo_runner.specs.at_ports.Runnable.{CanRun};
+ghost use Rattle.reo_runs.specs.at_ports.Runnable.{CanRun};
 ghost use Rattle.reo_runs.specs.verdicts.Replays.{HasText};
 ghost use Rattle.reo_draw_replay.specs.declared.showing.Shown.{Shown as AShown};
 ghost use Rattle.reo_draw_replay.specs.Shown.{IsShown};
 ghost use Rattle.reo_draw_replay.specs.Steps.{IsShownAt};
 
+use crate::drawing::Drawing;
 use crate::laws::one_round;
-use crate::replay::{Halt, replay};
 use reo_flatten::Flat;
 use reo_kinds::Kind;
 use reo_net_base::Ports;
@@ -19,7 +19,7 @@ use reo_script::Script;
 use reo_trace::Ending;
 use reo_trace_reader::Trace;
 use reo_values::{Bytes, NoMemory};
-use reo_verify::ends_as;
+use reo_verify::{Halt, ends_as, replay};
 use std::alloc::Global;
 
 /// What there is to show of a trace.
@@ -68,7 +68,13 @@ fn shown_of(
         IfOk result (IsShown ports.now.list nodes.now homes.now start trace.now number) }
 {
     let rounds = trace.rounds.as_slice();
-    let mut picture = None;
+    let mut drawing = Drawing {
+        ports,
+        nodes,
+        homes,
+        number,
+        picture: None,
+    };
     match replay(
         alloc,
         circuit,
@@ -77,10 +83,9 @@ fn shown_of(
         homes,
         script,
         rounds,
-        number,
-        &mut picture,
+        &mut drawing,
     ) {
-        Ok(over) => Ok(shown_at(over, picture, trace)),
+        Ok(over) => Ok(shown_at(over, drawing.picture, trace)),
         Err(Halt::Refused(refusal)) => Ok(Shown::Refused(refusal)),
         Err(Halt::NoMemory) => Err(NoMemory),
     }

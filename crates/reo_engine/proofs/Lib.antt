@@ -1,4 +1,3 @@
-pub mod CountLemmas
 pub mod KeptLemmas
 pub mod Lookups
 pub mod FlowsLemmas

@@ -9,12 +9,12 @@ ghost use Rattle.reo_round.specs.Feeds.{AreFeeds};
 ghost use Rattle.reo_round.specs.Filling.{AreBlank, HaveColouring};
 ghost use Rattle.reo_engine.specs.Flows.{AreFlaggedShown, AreShownAt, AreWrittenAt, HasNoSheet, MayBeBlank, MayBeMarks, MayBeRows};
 
-use crate::planning::is_jammed;
 use reo_flags::Flags;
 use reo_knots::Knots;
 use reo_net_base::{Move, Primitive};
 use reo_net_circuit::Circuit;
 use reo_round::{Feeds, Sheet, blank};
+use reo_rounds::is_jammed;
 use reo_settling::{Kept, written_over};
 use reo_trace::Cells;
 use reo_values::{Bytes, List, NoMemory, Value};

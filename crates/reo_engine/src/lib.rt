@@ -19,9 +19,9 @@ mod offers;
 mod planning;
 mod renewing;
 mod rounds;
+mod stage;
 
 pub use engine::Engine;
 pub use laws::{made_rounds_are_rounds, plans_suit};
-pub use planning::plan_with;
 pub use reo_round::MadeRound;
 pub use reo_rounds::{Declined, Done, Exceeds, OfferFault, Plan, PlannedRound};

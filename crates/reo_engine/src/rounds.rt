@@ -13,9 +13,9 @@ ghost use Rattle.reo_engine.specs.Settled.{StaySettled};
 
 use crate::changes::mark_flowing;
 use crate::engine::Engine;
-use crate::planning::{plan_with, suits};
+use crate::planning::suits;
 use reo_net_base::Ported;
-use reo_rounds::{Done, Exceeds, Plan};
+use reo_rounds::{Done, Exceeds, Plan, plan_with};
 use reo_settling::first_colouring;
 use reo_steps::Steps;
 use std::alloc::Global;

@@ -25,8 +25,8 @@ use Rattle.reo_weights.specs.Over.{IsOver}
 use Rattle.reo_weights.specs.Over.Cause.{spent, wide}
 use Rattle.reo_runs.specs.Round.{State, net_ready, advanced}
 use Rattle.reo_runs.specs.Run.{firsts, over_after}
-use Rattle.reo_runner.specs.at_ports.Pending.{IsButForOffers}
-use Rattle.reo_runner.proofs.at_ports.AfterRound.{over_by}
+use Rattle.reo_runs.specs.at_ports.Pending.{IsButForOffers}
+use Rattle.reo_runs.proofs.at_ports.AfterRound.{over_by}
 use Rattle.reo_refute_base.specs.faults.Faults.{IsProof}
 use Rattle.reo_proof_texts.specs.Cuts.{LoggedRound, lines_text}
 use Rattle.reo_proof_texts.specs.Proven.{IsProven}

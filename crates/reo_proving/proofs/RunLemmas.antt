@@ -17,7 +17,7 @@ use Rattle.reo_trace.specs.EndingText.{ending_text}
 use Rattle.reo_rounds.specs.Rules.{Rules}
 use Rattle.reo_runs.specs.Round.{State}
 use Rattle.reo_runs.specs.Run.{Place, EndsAs, place_after, over_after, start_of, firsts}
-use Rattle.reo_runner.specs.at_ports.Pending.{IsButForOffers}
+use Rattle.reo_runs.specs.at_ports.Pending.{IsButForOffers}
 use Rattle.reo_proof_texts.specs.Cuts.{LoggedRound, logged_text, all_logged}
 use Rattle.reo_proof_texts.specs.Proven.{IsProven, AreProven, IsProved}
 use Rattle.reo_proof_laws.specs.Proofs.{HasProofs}

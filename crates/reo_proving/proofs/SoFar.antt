@@ -7,7 +7,7 @@ use Rattle.reo_players.specs.Players.{Player}
 use Rattle.reo_trace.specs.declared.line.Ending.{Ending}
 use Rattle.reo_rounds.specs.Rules.{Rules}
 use Rattle.reo_runs.specs.Run.{Place, EndsAs, firsts}
-use Rattle.reo_runner.specs.at_ports.Pending.{IsButForOffers}
+use Rattle.reo_runs.specs.at_ports.Pending.{IsButForOffers}
 use Rattle.reo_proof_texts.specs.Cuts.{LoggedRound, all_logged}
 use Rattle.reo_proof_texts.specs.Proven.{AreProven}
 

@@ -13,7 +13,7 @@ use Rattle.reo_weights.specs.declared.exceeds.Exceeds.TheVariants as faults
 use Rattle.reo_rounds.specs.Rules.{Rules}
 use Rattle.reo_runs.specs.Round.{State, net_ready}
 use Rattle.reo_runs.specs.Run.{firsts, over_after}
-use Rattle.reo_runner.specs.at_ports.Pending.{IsButForOffers}
+use Rattle.reo_runs.specs.at_ports.Pending.{IsButForOffers}
 use Rattle.reo_refute_base.specs.faults.Faults.{IsProof}
 use Rattle.reo_proof_texts.specs.Cuts.{LoggedRound, logged_text}
 use Rattle.reo_proof_texts.specs.Proven.{IsProven}

@@ -6,9 +6,9 @@ ghost use Rattle.reo_net_base.specs.Net.{net_of};
 ghost use Rattle.reo_trace.specs.declared.write.WriteFault.TheVariants.{Failed as SinkFailed};
 ghost use Rattle.reo_rounds.specs.Rules.{rules_of};
 ghost use Rattle.reo_runs.specs.Run.{start_of, firsts};
-ghost use Rattle.reo_runner.specs.at_ports.Between.{AreBetween};
-ghost use Rattle.reo_runner.specs.at_ports.Kinds.{kind_rules};
-ghost use Rattle.reo_runner.specs.at_ports.Runnable.{CanRun};
+ghost use Rattle.reo_runs.specs.at_ports.Between.{AreBetween};
+ghost use Rattle.reo_runs.specs.at_ports.Kinds.{kind_rules};
+ghost use Rattle.reo_runs.specs.at_ports.Runnable.{CanRun};
 ghost use Rattle.reo_proving.specs.Proving.{HasCome, HaveProofs};
 
 use crate::round::log_next;

@@ -24,7 +24,7 @@ use Rattle.reo_runs.specs.Run.{Place, Leads, IsRun, EndsAs, HasBegun, place_afte
 use Rattle.reo_runs.specs.Whole.{GoesOn, HasRun}
 use Rattle.reo_runs.specs.Written.{Ran, Cut, Kept, moved, goes, is_in, is_out}
 use Rattle.reo_runs.proofs.WholeLemmas.{leads_on}
-use Rattle.reo_runner.specs.at_ports.Pending.{IsButForOffers}
+use Rattle.reo_runs.specs.at_ports.Pending.{IsButForOffers}
 use Rattle.reo_runner.specs.declared.outcome.Outcome.{Outcome}
 use Rattle.reo_runner.specs.declared.outcome.Tally.{Tally}
 use Rattle.reo_runner.specs.declared.outcome.End2.{End2}

@@ -8,7 +8,7 @@ use Rattle.reo_trace.specs.declared.line.RoundLine.{RoundLine}
 use Rattle.reo_trace.specs.TraceText.{rounds_text}
 use Rattle.reo_rounds.specs.Rules.{Rules}
 use Rattle.reo_runs.specs.Run.{Place, Leads, firsts}
-use Rattle.reo_runner.specs.at_ports.Pending.{IsButForOffers}
+use Rattle.reo_runs.specs.at_ports.Pending.{IsButForOffers}
 use Rattle.reo_runner.specs.Outcome.{Counts}
 use Rattle.reo_runner.specs.declared.outcome.Tally.{Tally}
 

@@ -16,7 +16,7 @@ use Rattle.reo_weights.specs.Over.Cause.{spent, wide}
 use Rattle.reo_runs.specs.Round.{State, RoundOf, net_ready}
 use Rattle.reo_runs.specs.Run.{firsts, over_after}
 use Rattle.reo_runs.specs.Written.{goes, is_in, is_out}
-use Rattle.reo_runner.specs.at_ports.Pending.{IsButForOffers}
+use Rattle.reo_runs.specs.at_ports.Pending.{IsButForOffers}
 use Rattle.reo_runner.specs.declared.outcome.Tally.{Tally}
 use Rattle.reo_runner.specs.declared.round.Played.{Played}
 use Rattle.reo_runner.specs.declared.planning.RoundFault.{RoundFault}

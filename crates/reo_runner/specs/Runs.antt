@@ -1,8 +1,8 @@
 -- The runs on a circuit.
 use Rattle.std.specs.Prelude.{ℕ, ◌≡◌}
 use Rattle.reo_net_base.specs.Net.{Wiring}
-pub use Rattle.reo_runner.specs.at_ports.Kinds.{kind_rules}
-pub use Rattle.reo_runner.specs.at_ports.Runnable.{CanRun}
+pub use Rattle.reo_runs.specs.at_ports.Kinds.{kind_rules}
+pub use Rattle.reo_runs.specs.at_ports.Runnable.{CanRun}
 use Rattle.reo_rounds.specs.Rules.{Rules}
 use Rattle.reo_runs.specs.Run.{Place, firsts}
 use Rattle.reo_runs.specs.Whole.{HasRun}

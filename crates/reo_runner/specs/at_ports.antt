@@ -1,6 +1,1 @@
-pub mod Pending
-pub mod Between
-pub mod Parts
-pub mod Kinds
-pub mod Runnable
 pub mod Engines

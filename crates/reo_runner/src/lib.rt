@@ -9,8 +9,8 @@ mod round;
 mod runner;
 
 pub use at_ports::{
-    Carried, Engine, Exceeds, MadeRound, PlannedRound, advance_all, carry_on, carry_out, offer_all,
-    release_circuit, release_engine, release_players, release_run,
+    Engine, Exceeds, MadeRound, PlannedRound, carry_on, release_circuit, release_engine,
+    release_players, release_run,
 };
 pub use outcome::{End2, Limits, Outcome};
 pub use runner::run;

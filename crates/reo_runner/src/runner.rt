@@ -8,10 +8,10 @@ ghost use Rattle.reo_script.specs.declared.scripts.action.Component.{Component};
 ghost use Rattle.reo_rounds.specs.Rules.{rules_of};
 ghost use Rattle.reo_runs.specs.Run.{Place, start_of, firsts};
 ghost use Rattle.reo_runs.specs.Whole.{HasRun};
-ghost use Rattle.reo_runner.specs.at_ports.Between.{AreBetween};
-ghost use Rattle.reo_runner.specs.at_ports.Kinds.{kind_rules};
+ghost use Rattle.reo_runs.specs.at_ports.Between.{AreBetween};
+ghost use Rattle.reo_runs.specs.at_ports.Kinds.{kind_rules};
 ghost use Rattle.reo_runner.specs.Outcome.{CameTo, StopsAs};
-ghost use Rattle.reo_runner.specs.at_ports.Runnable.{CanRun};
+ghost use Rattle.reo_runs.specs.at_ports.Runnable.{CanRun};
 ghost use Rattle.reo_runner.specs.Runs.{HasRuns};
 ghost use Rattle.reo_runner.specs.declared.planning.RoundFault.TheVariants.{Failed as SinkFailed};
 

@@ -7,3 +7,4 @@ pub mod Written
 pub mod verdicts
 pub mod run_texts
 pub mod run_premises
+pub mod at_ports

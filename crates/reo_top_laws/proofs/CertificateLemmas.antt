@@ -9,7 +9,7 @@ use Rattle.reo_trace.specs.TraceText.{trace_text}
 use Rattle.reo_trace_reader.specs.declared.texts.trace.Trace.{Trace}
 use Rattle.reo_trace_reader.specs.texts.Texts.{IsTraceText}
 use Rattle.reo_runs.specs.Run.{start_of, firsts, IsRun}
-use Rattle.reo_runner.specs.at_ports.Kinds.{kind_rules}
+use Rattle.reo_runs.specs.at_ports.Kinds.{kind_rules}
 use Rattle.reo_runs.specs.run_texts.Laws.{IsTold, RunsAreTraceTexts}
 use Rattle.reo_command.specs.Readings.{FlatCircuit, IsCircuitText, flat_of}
 

@@ -4,7 +4,7 @@ use Rattle.reo_runner.specs.declared.outcome.Limits.{Limits}
 use Rattle.reo_trace.specs.TraceText.{trace_text}
 use Rattle.reo_runs.specs.Run.{start_of}
 use Rattle.reo_runs.specs.Whole.{HasRun, HasOneRun}
-use Rattle.reo_runner.specs.at_ports.Kinds.{kind_rules}
+use Rattle.reo_runs.specs.at_ports.Kinds.{kind_rules}
 use Rattle.reo_command.specs.Limits.{firsts_for}
 use Rattle.reo_command.specs.Readings.{Runnable}
 use Rattle.reo_top.specs.runs.Traces.{IsTraceOf, ending_status}

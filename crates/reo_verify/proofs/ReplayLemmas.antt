@@ -19,8 +19,8 @@ use Rattle.reo_rounds.specs.Rules.{Rules}
 use Rattle.reo_runs.specs.Round.{State, advanced, net_ready}
 use Rattle.reo_runs.specs.Run.{Place, Leads, place_after, over_after}
 use Rattle.reo_runs.proofs.WholeLemmas.{leads_on}
-use Rattle.reo_runner.specs.at_ports.Pending.{IsButForOffers}
-use Rattle.reo_runner.proofs.at_ports.AfterRound.{over_by}
+use Rattle.reo_runs.specs.at_ports.Pending.{IsButForOffers}
+use Rattle.reo_runs.proofs.at_ports.AfterRound.{over_by}
 use Rattle.reo_runs.specs.declared.verdicts.verdict.Refusal.{Refusal}
 use Rattle.reo_runs.specs.declared.verdicts.verdict.Refusal.TheVariants as refusals
 use Rattle.reo_runs.specs.verdicts.Replays.{colourings}

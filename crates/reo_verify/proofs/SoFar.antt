@@ -6,7 +6,7 @@ use Rattle.reo_trace.specs.declared.line.RoundLine.{RoundLine}
 use Rattle.reo_trace.specs.declared.line.Ending.{Ending}
 use Rattle.reo_rounds.specs.Rules.{Rules}
 use Rattle.reo_runs.specs.Run.{Place, Leads}
-use Rattle.reo_runner.specs.at_ports.Pending.{IsButForOffers}
+use Rattle.reo_runs.specs.at_ports.Pending.{IsButForOffers}
 use Rattle.reo_runs.specs.verdicts.Replays.{colourings}
 
 -- So far: the lines are rounds of a run, which is over so or goes on, with a circuit that this one is but for offers.

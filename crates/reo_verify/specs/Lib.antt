@@ -1,2 +1,3 @@
+pub mod Seeing
 pub mod Replayed
 pub mod judging

@@ -8,7 +8,7 @@ use Rattle.reo_trace_reader.specs.declared.texts.trace.Trace.{Trace}
 use Rattle.reo_rounds.specs.Rules.{Rules}
 use Rattle.reo_runs.specs.Round.{State, RoundOf, net_ready}
 use Rattle.reo_runs.specs.Run.{Place, Leads, over_after}
-use Rattle.reo_runner.specs.at_ports.Pending.{IsButForOffers}
+use Rattle.reo_runs.specs.at_ports.Pending.{IsButForOffers}
 use Rattle.reo_runs.specs.declared.verdicts.verdict.Refusal.{Refusal}
 use Rattle.reo_runs.specs.declared.verdicts.verdict.Refusal.TheVariants as refusals
 use Rattle.reo_runs.specs.declared.verdicts.verdict.Verdict.{Verdict}
@@ -17,8 +17,8 @@ use Rattle.reo_runs.specs.verdicts.Replays.{colourings}
 use Rattle.reo_runs.specs.verdicts.Said.{jammed}
 use Rattle.reo_runs.specs.verdicts.Verdicts.{IsWrongAt}
 use Rattle.reo_verify.specs.declared.judging.judging.Stop.{Stop}
-use Rattle.reo_verify.specs.declared.replay.Halt.{Halt}
-use Rattle.reo_verify.specs.declared.replay.Halt.TheVariants as halts
+use Rattle.reo_verify.specs.declared.halt.Halt.{Halt}
+use Rattle.reo_verify.specs.declared.halt.Halt.TheVariants as halts
 use Rattle.reo_verify.specs.judging.Ends.{IsEndOf}
 use Rattle.reo_verify.specs.judging.Judged.{IsLineStop}
 

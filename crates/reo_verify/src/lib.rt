@@ -2,11 +2,16 @@
 //! colourings.
 #![tactic(auto)]
 
+mod halt;
 mod jams;
 pub mod judging;
-mod replay;
+mod replaying;
 mod verifying;
+mod witness;
 
+pub use halt::Halt;
 pub use judging::{Stop, begins, ends_as, plan_of, refusal_of};
 pub use reo_runs::{Refusal, Verdict};
+pub use replaying::replay;
 pub use verifying::verify_trace;
+pub use witness::Witness;

@@ -3,17 +3,19 @@ ghost use Rattle.std.specs.Prelude.{◌≡◌, ◌<◌, ◌^◌, IfOk, map};
 ghost use Rattle.reo_kinds.specs.Kinds.{port_state_of};
 ghost use Rattle.reo_rounds.specs.Rules.{rules_of};
 ghost use Rattle.reo_runs.specs.Run.{start_of};
-ghost use Rattle.reo_runner.specs.at_ports.Kinds.{kind_rules};
-ghost use Rattle.reo_runner.specs.at_ports.Runnable.{CanRun};
+ghost use Rattle.reo_runs.specs.at_ports.Kinds.{kind_rules};
+ghost use Rattle.reo_runs.specs.at_ports.Runnable.{CanRun};
 ghost use Rattle.reo_runs.specs.declared.verdicts.verdict.Verdict.{Verdict as AVerdict};
 ghost use Rattle.reo_runs.specs.verdicts.Said.{jammed};
 ghost use Rattle.reo_runs.specs.verdicts.Replays.{HasText};
 ghost use Rattle.reo_runs.specs.verdicts.Verdicts.{IsVerdict};
 ghost use Rattle.reo_verify.specs.Replayed.{IsVerdictAt};
 
+use crate::halt::Halt;
 use crate::jams::jammed;
 use crate::judging::ends_as;
-use crate::replay::{Halt, replay};
+use crate::replaying::replay;
+use crate::witness::Blind;
 use reo_flatten::Flat;
 use reo_kinds::Kind;
 use reo_net_base::{Ports, Restoring};
@@ -59,7 +61,9 @@ fn verdict_of<P: Restoring>(
         IfOk result (IsVerdict r nodes.now homes.now start trace.now) }
 {
     let rounds = trace.rounds.as_slice();
-    match replay(alloc, circuit, ports, nodes, homes, script, rounds) {
+    match replay(
+        alloc, circuit, ports, nodes, homes, script, rounds, &mut Blind,
+    ) {
         Ok(over) => Ok(verdict_at(over, trace)),
         Err(Halt::Refused(refusal)) => Ok(Verdict::Refused(refusal)),
         Err(Halt::NoMemory) => Err(NoMemory),

@@ -12,7 +12,7 @@ use Rattle.reo_rounds.specs.Rules.{Rules}
 use Rattle.reo_rounds.proofs.OrderLemmas.{KeepsShape, ready_order, round_order}
 use Rattle.reo_runs.specs.Round.{State, net_ready}
 use Rattle.reo_runs.specs.Run.{Place, place_after}
-use Rattle.reo_runner.specs.at_ports.Pending.{IsButForOffers}
+use Rattle.reo_runs.specs.at_ports.Pending.{IsButForOffers}
 use Rattle.reo_runs.specs.verdicts.Replays.{colourings}
 use Rattle.reo_runs.specs.verdicts.Said.{AreSaid}
 use Rattle.reo_refute_base.specs.declared.faults.fault.ProofFault.TheVariants as faults

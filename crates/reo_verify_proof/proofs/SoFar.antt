@@ -7,7 +7,7 @@ use Rattle.reo_trace.specs.declared.line.Ending.{Ending}
 use Rattle.reo_rounds.specs.Order.{HasOrder}
 use Rattle.reo_rounds.specs.Rules.{Rules}
 use Rattle.reo_runs.specs.Run.{Place}
-use Rattle.reo_runner.specs.at_ports.Pending.{IsButForOffers}
+use Rattle.reo_runs.specs.at_ports.Pending.{IsButForOffers}
 use Rattle.reo_runs.specs.verdicts.Replays.{colourings}
 use Rattle.reo_proof_texts.specs.Cuts.{LoggedRound, all_logged, lines_in, AreLogged}
 use Rattle.reo_proof_texts.specs.Proven.{AreProven}

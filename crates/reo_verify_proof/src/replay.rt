@@ -3,8 +3,8 @@ ghost use Rattle.std.specs.Prelude.{◌≡◌, ◌<◌, ◌^◌, map};
 ghost use Rattle.reo_trace_reader.specs.texts.Lines.{AreTold};
 ghost use Rattle.reo_rounds.specs.Rules.{rules_of};
 ghost use Rattle.reo_runs.specs.Run.{Place, start_of};
-ghost use Rattle.reo_runner.specs.at_ports.Between.{AreBetween};
-ghost use Rattle.reo_runner.specs.at_ports.Runnable.{CanRun};
+ghost use Rattle.reo_runs.specs.at_ports.Between.{AreBetween};
+ghost use Rattle.reo_runs.specs.at_ports.Runnable.{CanRun};
 ghost use Rattle.reo_verify.specs.judging.Ends.{IsEndOf};
 ghost use Rattle.reo_proof_texts.specs.ProofVerdicts.{IsProofVerdict};
 ghost use Rattle.reo_verify_proof.specs.Answered.{IfVerdict};
@@ -17,7 +17,7 @@ use reo_net_circuit::Circuit;
 use reo_players::Players;
 use reo_proof_reader::{Next, ProofReader, read_next};
 use reo_proof_texts::ProofRefusal;
-use reo_runner::{Engine, release_run};
+use reo_rounds::{PlainStage, Stage};
 use reo_runs::known_order;
 use reo_script::Script;
 use reo_trace::Ending;
@@ -42,7 +42,7 @@ fn verdict_at(over: Option<Ending>, made: u64, ending: Ending) -> Result<u64, Pr
 /// long as the run is not over, and then its ending is judged.
 fn replay_rounds<P: Restoring>(
     alloc: Global,
-    engine: &mut Engine<P>,
+    stage: &mut PlainStage<P>,
     players: &mut Players,
     ports: &Ports,
     nodes: &[Bytes],
@@ -50,23 +50,23 @@ fn replay_rounds<P: Restoring>(
     begins: Option<Ending>,
     proof: &[u8],
 ) -> Result<u64, ProofRefusal>
-    requires between { let old = engine.old.circuit in
+    requires between { let old = stage.old.circuit in
         AreBetween ports.now.list old.ports players.old (map P.port_state old.primitives) }
-    requires none_made { engine.old.rounds ≡ 0 }
+    requires none_made { stage.old.rounds ≡ 0 }
     requires told { AreTold ports.now.list }
     ensures { let r = rules_of P.behaviour P.settled P.port_state P.placed P.withdrawn in
-        let circuit = engine.old.circuit in
+        let circuit = stage.old.circuit in
         let start : Place _ =
         record { state = record { circuit = circuit; players = players.old }; over = begins } in
         IfVerdict result (IsProofVerdict r ports.now.list nodes.now homes.now start proof.now) }
 {
-    known_order(engine.circuit());
+    known_order(stage.circuit());
     let _length = proof.len();
     let mut reader = ProofReader::new(proof);
     let mut over = begins;
     let mut before = 0;
     loop {
-        let made = engine.rounds();
+        let made = stage.rounds();
         match read_next(alloc, &mut reader, ports, made + 1) {
             Err(_) => return Err(ProofRefusal::NoMemory),
             Ok(Next::Wrong { line }) => return Err(ProofRefusal::Line {
@@ -77,7 +77,7 @@ fn replay_rounds<P: Restoring>(
                 if over.is_some() {
                     return Err(ProofRefusal::Ended { round: made + 1 });
                 }
-                match prove_round(alloc, engine, players, ports, &line, log) {
+                match prove_round(alloc, stage, players, ports, &line, log) {
                     Ok(now) => over = now,
                     Err(stop) => {
                         return Err(refuse_round(alloc, nodes, homes, before, made + 1, stop));
@@ -109,20 +109,16 @@ pub(crate) fn replay<P: Restoring>(
     let Ok(mut players) = Players::new(alloc, script) else {
         return Err(ProofRefusal::NoMemory);
     };
-    let Ok(mut engine) = Engine::new(alloc, circuit) else {
-        return Err(ProofRefusal::NoMemory);
-    };
+    let mut stage = PlainStage::new(circuit);
     let begins = begins(&players);
-    let answer = replay_rounds(
+    replay_rounds(
         alloc,
-        &mut engine,
+        &mut stage,
         &mut players,
         ports,
         nodes,
         homes,
         begins,
         proof,
-    );
-    release_run(engine, players);
-    answer
+    )
 }

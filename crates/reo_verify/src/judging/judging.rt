@@ -8,10 +8,10 @@ ghost use Rattle.reo_verify.specs.judging.Judged.{IsStopBy, IsColouringSaid, IsP
 
 use crate::judging::rows::{are_counted, row_break, rows_said};
 use reo_checker::{Wrong, check_marks, item_fault};
-use reo_engine::{Plan, plan_with};
 use reo_net::{are_moves, fill};
 use reo_net_base::{Colouring, Primitive};
 use reo_net_circuit::Circuit;
+use reo_rounds::{Plan, plan_with};
 use reo_trace::{Entry, RoundLine};
 use reo_values::{List, NoMemory};
 use std::alloc::Global;

@@ -15,8 +15,8 @@ use Rattle.reo_rounds.specs.Ready.{ready}
 use Rattle.reo_rounds.specs.Rules.{Rules}
 use Rattle.reo_runs.specs.Round.{State, RoundOf, advanced}
 use Rattle.reo_runs.specs.Run.{over_after}
-use Rattle.reo_runner.specs.at_ports.Pending.{IsButForOffers}
-use Rattle.reo_runner.proofs.at_ports.AfterRound.{over_by}
+use Rattle.reo_runs.specs.at_ports.Pending.{IsButForOffers}
+use Rattle.reo_runs.proofs.at_ports.AfterRound.{over_by}
 use Rattle.reo_runs.specs.verdicts.Replays.{colourings}
 use Rattle.reo_verify.specs.judging.Judged.{IsPlanShown}
 use Rattle.reo_refute_base.specs.declared.faults.fault.ProofFault.{ProofFault}

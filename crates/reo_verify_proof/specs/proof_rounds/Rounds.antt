@@ -7,7 +7,7 @@ use Rattle.reo_trace.specs.declared.line.Ending.{Ending}
 use Rattle.reo_rounds.specs.Rules.{Rules}
 use Rattle.reo_runs.specs.Round.{State, RoundOf, net_ready}
 use Rattle.reo_runs.specs.Run.{over_after}
-use Rattle.reo_runner.specs.at_ports.Pending.{IsButForOffers}
+use Rattle.reo_runs.specs.at_ports.Pending.{IsButForOffers}
 use Rattle.reo_runs.specs.verdicts.Replays.{colourings}
 use Rattle.reo_verify.specs.judging.Judged.{IsLineStop}
 use Rattle.reo_refute_base.specs.declared.faults.fault.ProofFault.{ProofFault}

@@ -3,15 +3,16 @@ ghost use Rattle.std.specs.Prelude.{◌≡◌, ◌+◌, ◌<◌, ◌^◌, IfOk, 
 ghost use Rattle.reo_net_base.specs.Net.{Wiring};
 ghost use Rattle.reo_rounds.specs.Rules.{rules_of};
 ghost use Rattle.reo_runs.specs.Round.{State};
-ghost use Rattle.reo_runner.specs.at_ports.Between.{AreBetween};
-ghost use Rattle.reo_runner.specs.at_ports.Pending.{IsButForOffers};
+ghost use Rattle.reo_runs.specs.at_ports.Between.{AreBetween};
+ghost use Rattle.reo_runs.specs.at_ports.Pending.{IsButForOffers};
 ghost use Rattle.reo_verify_proof.specs.proof_rounds.Rounds.{IsRoundProven, IsNoProof};
 
 use crate::proof_rounds::stop::RoundStop;
 use reo_net_base::{Ports, Restoring};
 use reo_players::Players;
 use reo_refute::check_proof;
-use reo_runner::{Engine, carry_out, offer_all};
+use reo_rounds::{PlainStage, Stage};
+use reo_runs::{carry_out, offer_all};
 use reo_trace::{Ending, RoundLine};
 use reo_verify::plan_of;
 use std::alloc::Global;
@@ -26,34 +27,34 @@ use std::alloc::Global;
 /// memory. No round was made.
 pub fn prove_round<P: Restoring>(
     alloc: Global,
-    engine: &mut Engine<P>,
+    stage: &mut PlainStage<P>,
     players: &mut Players,
     ports: &Ports,
     line: &RoundLine,
     log: &[u8],
 ) -> Result<Option<Ending>, RoundStop>
-    requires between { let old = engine.old.circuit in
+    requires between { let old = stage.old.circuit in
         AreBetween ports.now.list old.ports players.old (map P.port_state old.primitives) }
-    requires few { engine.old.rounds + 1 < 2 ^ 63 }
-    requires number { line.now.round ≡ engine.old.rounds + 1 }
+    requires few { stage.old.rounds + 1 < 2 ^ 63 }
+    requires number { line.now.round ≡ stage.old.rounds + 1 }
     ensures made { let r = rules_of P.behaviour P.settled P.port_state P.placed P.withdrawn in
-        let turn = engine.old.rounds + 1 in
-        (w : Wiring _) → IsButForOffers r w engine.old.circuit
+        let turn = stage.old.rounds + 1 in
+        (w : Wiring _) → IsButForOffers r w stage.old.circuit
         → IfOk result (IsRoundProven r turn (record { circuit = w; players = players.old }) line.now
-        log.now engine.new.circuit players.new) }
+        log.now stage.new.circuit players.new) }
     ensures wrong { let r = rules_of P.behaviour P.settled P.port_state P.placed P.withdrawn in
-        let turn = engine.old.rounds + 1 in
-        (w : Wiring _) → IsButForOffers r w engine.old.circuit
+        let turn = stage.old.rounds + 1 in
+        (w : Wiring _) → IsButForOffers r w stage.old.circuit
         → IfErr result (IsNoProof r turn (record { circuit = w; players = players.old }) line.now
         log.now) }
-    ensures between { let new = engine.new.circuit in
+    ensures between { let new = stage.new.circuit in
         let states = map P.port_state new.primitives in
         OnOk result (AreBetween ports.now.list new.ports players.new states) }
-    ensures rounds { OnOk result (engine.new.rounds ≡ engine.old.rounds + 1) }
+    ensures rounds { OnOk result (stage.new.rounds ≡ stage.old.rounds + 1) }
 {
-    offer_all(engine, ports, players)?;
-    let turn = engine.rounds() + 1;
-    let circuit = engine.circuit();
+    offer_all(stage, ports, players)?;
+    let turn = stage.rounds() + 1;
+    let circuit = stage.circuit();
     match plan_of(alloc, circuit, line) {
         Err(stop) => Err(RoundStop::Line(stop)),
         Ok(plan) => {
@@ -61,7 +62,7 @@ pub fn prove_round<P: Restoring>(
             match check_proof(alloc, circuit, turn, rows, log) {
                 Err(fault) => Err(RoundStop::Log(fault)),
                 Ok(()) => {
-                    let carried = carry_out(engine, players, ports, plan);
+                    let carried = carry_out(stage, players, ports, plan);
                     Ok(carried.over)
                 }
             }

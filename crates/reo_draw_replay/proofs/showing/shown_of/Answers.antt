@@ -1,25 +1,29 @@
-use Rattle.std.proofs.Common.{List, length, subst}
+use Rattle.std.proofs.Common.{List, length, refl, subst}
 use Rattle.reo_trace.specs.declared.line.RoundLine.{RoundLine}
 use Rattle.reo_runs.specs.Run.{start_of}
-use Rattle.reo_runner.specs.at_ports.Kinds.{kind_rules}
-use Rattle.reo_verify.specs.Replayed.{AreReplayed}
+use Rattle.reo_runs.specs.at_ports.Kinds.{kind_rules}
+use Rattle.reo_verify.specs.Replayed.{AreReplayed, IsHalted}
 use Rattle.reo_verify.proofs.VerdictLemmas.{refused_by}
-use Rattle.reo_draw_replay.specs.declared.replay.Halt.{Halt}
-use Rattle.reo_draw_replay.specs.Steps.{IsHalted, IsDrawnWithin}
+use Rattle.reo_verify.specs.declared.halt.Halt.{Halt}
+use Rattle.reo_draw_replay.specs.Steps.{IsDrawnWithin}
+use Rattle.reo_draw_replay.proofs.DrawnLemmas.{drawn_none, drawn_of}
 use Rattle.reo_draw_replay.proofs.ShownLemmas.{shown_by}
 use Rattle.reo_draw_replay.proofs.showing.shown_of.Goals as goal
 
 pub returns-in-Ok : goal.returns-in-Ok
 returns-in-Ok c =
     let start = start_of c.args.circuit c.args.script.components in
-    shown_by c.args.ports.now.list c.args.nodes.now c.args.homes.now start c.args.trace.now c.args.number c.in-Ok.over c.replay.new.picture _
+    shown_by c.args.ports.now.list c.args.nodes.now c.args.homes.now start c.args.trace.now c.args.number c.in-Ok.over c.replay.new.witness.picture _
     (subst (λ (ls : List RoundLine). AreReplayed kind_rules start ls c.in-Ok.over) c.as_slice-rounds.ensures c.in-Ok.ensures.replayed)
-    (subst (λ (ls : List RoundLine). IsDrawnWithin c.args.ports.now.list c.args.nodes.now c.args.homes.now start ls (length ls) c.args.number c.replay.new.picture) c.as_slice-rounds.ensures c.in-Ok.ensures.drawn)
+    (subst (λ (ls : List RoundLine). IsDrawnWithin c.args.ports.now.list c.args.nodes.now c.args.homes.now start ls (length ls) c.args.number c.replay.new.witness.picture) c.as_slice-rounds.ensures (drawn_of _ _ start _ c.in-Ok.ensures.seen))
     c.shown_at.ensures
 
 pub returns-in-Err-Refused : goal.returns-in-Err-Refused
 returns-in-Err-Refused c =
     let start = start_of c.args.circuit c.args.script.components in
-    let lines = subst (λ (ls : List RoundLine). IsHalted c.args.nodes.now c.args.homes.now start ls c.in-Err-Refused.field-0) c.as_slice-rounds.ensures c.in-Err-Refused.ensures.replayed in
+    let lines = subst (λ (ls : List RoundLine). IsHalted kind_rules c.args.nodes.now c.args.homes.now start ls c.in-Err-Refused.field-0) c.as_slice-rounds.ensures c.in-Err-Refused.ensures.replayed in
     refused_by kind_rules c.args.nodes.now c.args.homes.now start c.args.trace.now c.in-Err-Refused.refusal
-    (subst (λ (h : Halt). IsHalted c.args.nodes.now c.args.homes.now start c.args.trace.now.rounds h) c.in-Err-Refused.field-0-is lines)
+    (subst (λ (h : Halt). IsHalted kind_rules c.args.nodes.now c.args.homes.now start c.args.trace.now.rounds h) c.in-Err-Refused.field-0-is lines)
+
+pub replay-requires-clause-none_seen : goal.replay-requires-clause-none_seen
+replay-requires-clause-none_seen c = λ start. drawn_none _ start refl

@@ -4,7 +4,7 @@ use Rattle.reo_io.proofs.Counts.{same_count}
 use Rattle.reo_trace.specs.declared.write.WriteFault.TheVariants.{Failed as SinkFailed}
 use Rattle.reo_rounds.specs.Rules.{rules_of}
 use Rattle.reo_runs.specs.Run.{Place, firsts}
-use Rattle.reo_runner.proofs.at_ports.Kept.{self_but}
+use Rattle.reo_runs.proofs.at_ports.Kept.{self_but}
 use Rattle.reo_proof_laws.specs.Proofs.{HasProofs}
 use Rattle.reo_proving.specs.Proving.{HasCome}
 use Rattle.reo_proving.proofs.RunLemmas.{so_far_none, so_far_more, finished, proved_by, cut_at_end, kept_at_end, cut_round, kept, passed_on}

@@ -6,8 +6,8 @@ use Rattle.reo_trace.specs.declared.line.Ending.TheVariants as endings
 use Rattle.reo_trace.specs.declared.write.WriteFault.TheVariants.{NoMemory as OutOfMemory}
 use Rattle.reo_rounds.specs.Rules.{rules_of}
 use Rattle.reo_runs.specs.Run.{Place, start_of, firsts}
-use Rattle.reo_runner.specs.at_ports.Between.{AreBetween}
-use Rattle.reo_runner.proofs.at_ports.Begun.{just_ports, between_first}
+use Rattle.reo_runs.specs.at_ports.Between.{AreBetween}
+use Rattle.reo_runs.proofs.at_ports.Begun.{just_ports, between_first}
 use Rattle.reo_proof_laws.specs.Proofs.{HasProofs}
 use Rattle.reo_proving.specs.Proving.{HasCome}
 use Rattle.reo_proving.proofs.RunLemmas.{done_first, proved_by, cut_at_end, kept_at_end, kept_by, passed_on, begun}

@@ -1,6 +1,6 @@
 use Rattle.std.proofs.Common.{refl}
 use Rattle.reo_flat.specs.Flat.{ports_of}
-use Rattle.reo_runner.proofs.at_ports.Begun.{just_ports}
+use Rattle.reo_runs.proofs.at_ports.Begun.{just_ports}
 use Rattle.reo_run_tests.proofs.circuits.circuit_of.Goals as goal
 
 pub returns-in-Ok : goal.returns-in-Ok

@@ -9,7 +9,7 @@ use Rattle.reo_rounds.specs.Rules.{rules_of}
 use Rattle.reo_rounds.specs.declared.plan.Plan.{Plan}
 use Rattle.reo_runner.specs.at_ports.Engines.{MadeRound}
 use Rattle.reo_runs.specs.Round.{State, advanced}
-use Rattle.reo_runner.proofs.at_ports.AfterRound.{over_by}
+use Rattle.reo_runs.proofs.at_ports.AfterRound.{over_by}
 use Rattle.reo_runner.proofs.RoundLemmas.{plan_of, round_planned, stood_plan, tallied_by}
 use Rattle.reo_runner.proofs.round.play_round.Goals as goal
 

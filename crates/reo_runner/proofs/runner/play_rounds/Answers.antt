@@ -2,7 +2,7 @@ use Rattle.std.proofs.Common.{◌≡◌, ◌∙◌, ◌+◌, ℕ, None, refl, sy
 use Rattle.reo_values.proofs.Sequences.{no_value}
 use Rattle.reo_rounds.specs.Rules.{rules_of}
 use Rattle.reo_runs.specs.Run.{Place}
-use Rattle.reo_runner.proofs.at_ports.Kept.{self_but}
+use Rattle.reo_runs.proofs.at_ports.Kept.{self_but}
 use Rattle.reo_io.proofs.Counts.{same_count}
 use Rattle.reo_runner.specs.declared.planning.RoundFault.TheVariants.{Failed as SinkFailed}
 use Rattle.reo_runner.proofs.RunLemmas.{so_far_none, at_limit, ended, so_far_more, stopped_by}

@@ -1,6 +1,6 @@
 use Rattle.std.proofs.Common.{◌≡◌, ◌≤◌, ◌-◌, None, map}
 use Rattle.reo_rounds.specs.Rules.{rules_of}
-use Rattle.reo_runner.specs.at_ports.Between.{AreBetween}
+use Rattle.reo_runs.specs.at_ports.Between.{AreBetween}
 use Rattle.reo_runner.specs.Rounds.{IsSmall}
 use Rattle.reo_runner.proofs.SoFar.{SoFar}
 use Rattle.reo_runner.proofs.runner.play_rounds.Given as goal

@@ -3,8 +3,8 @@ use Rattle.reo_net_base.specs.Net.{Wiring}
 use Rattle.reo_players.specs.Players.{all_done, beginning_of}
 use Rattle.reo_rounds.specs.Rules.{rules_of}
 use Rattle.reo_runs.specs.Run.{start_of}
-use Rattle.reo_runner.specs.at_ports.Between.{AreBetween}
-use Rattle.reo_runner.proofs.at_ports.Begun.{just_ports, between_first}
+use Rattle.reo_runs.specs.at_ports.Between.{AreBetween}
+use Rattle.reo_runs.proofs.at_ports.Begun.{just_ports, between_first}
 use Rattle.reo_runner.proofs.StartLemmas.{kept_none, done_first}
 use Rattle.reo_runner.proofs.runner.run_counted.Goals as goal
 

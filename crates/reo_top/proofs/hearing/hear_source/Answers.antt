@@ -1,5 +1,5 @@
 use Rattle.std.proofs.Common.{inr, arith}
-use Rattle.reo_runner.proofs.at_ports.Begun.{just_ports}
+use Rattle.reo_runs.proofs.at_ports.Begun.{just_ports}
 use Rattle.reo_live.specs.closings.Sources.{followed, state_of, untaken, source_change}
 use Rattle.reo_command.specs.ReadSteps.{circuit_in}
 use Rattle.reo_command.specs.States.{SinkState}

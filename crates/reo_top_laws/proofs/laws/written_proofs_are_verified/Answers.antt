@@ -1,6 +1,6 @@
 use Rattle.std.proofs.Common.{length, refl, sym, subst, arith}
 use Rattle.std.specs.Prelude.{Ok}
-use Rattle.reo_runner.specs.at_ports.Kinds.{kind_rules}
+use Rattle.reo_runs.specs.at_ports.Kinds.{kind_rules}
 use Rattle.reo_runs.specs.Run.{firsts, start_of}
 use Rattle.reo_proof_texts.specs.Proven.{IsProved}
 use Rattle.reo_proof_texts.specs.ProofVerdicts.{IsProofVerdict}

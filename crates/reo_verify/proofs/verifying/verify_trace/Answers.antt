@@ -1,7 +1,7 @@
 use Rattle.std.proofs.Common.{rules}
 use Rattle.std.specs.Prelude.{IfOk}
 use Rattle.reo_runs.specs.Run.{start_of}
-use Rattle.reo_runner.specs.at_ports.Kinds.{kind_rules}
+use Rattle.reo_runs.specs.at_ports.Kinds.{kind_rules}
 use Rattle.reo_runs.specs.declared.verdicts.verdict.Verdict.{Verdict}
 use Rattle.reo_runs.specs.verdicts.Verdicts.{IsVerdict}
 use Rattle.reo_verify.proofs.VerdictLemmas.{only_by}

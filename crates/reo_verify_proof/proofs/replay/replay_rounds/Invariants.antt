@@ -1,6 +1,6 @@
 use Rattle.std.proofs.Common.{length, map}
 use Rattle.reo_rounds.specs.Rules.{rules_of}
-use Rattle.reo_runner.specs.at_ports.Between.{AreBetween}
+use Rattle.reo_runs.specs.at_ports.Between.{AreBetween}
 use Rattle.reo_verify_proof.proofs.SoFar.{SoFar}
 use Rattle.reo_verify_proof.proofs.replay.replay_rounds.Given as goal
 
@@ -8,9 +8,9 @@ use Rattle.reo_verify_proof.proofs.replay.replay_rounds.Given as goal
 abbrev pub invariant-loop-line : goal.invariant-loop-line
 invariant-loop-line g l = record {
   so_far : SoFar (rules_of g.P.Primitive.behaviour g.P.Primitive.settled g.P.Ported.port_state g.P.Ported.placed g.P.Ported.withdrawn) l.ports.list
-      (record { state = record { circuit = l.fn.engine.circuit; players = l.fn.players }; over = l.fn.begins })
-      l.proof l.reader l.before l.engine.rounds l.engine.circuit l.players l.over;
-  between : AreBetween l.ports.list l.engine.circuit.ports l.players (map g.P.Ported.port_state l.engine.circuit.primitives);
+      (record { state = record { circuit = l.fn.stage.circuit; players = l.fn.players }; over = l.fn.begins })
+      l.proof l.reader l.before l.stage.rounds l.stage.circuit l.players l.over;
+  between : AreBetween l.ports.list l.stage.circuit.ports l.players (map g.P.Ported.port_state l.stage.circuit.primitives);
 }
 
 abbrev pub decreases-loop-line : goal.decreases-loop-line

@@ -1,7 +1,7 @@
 use Rattle.std.proofs.Common.{◌≡◌, ℕ, rules}
 use Rattle.std.specs.Prelude.{Result}
 use Rattle.reo_runs.specs.Run.{start_of}
-use Rattle.reo_runner.specs.at_ports.Kinds.{kind_rules}
+use Rattle.reo_runs.specs.at_ports.Kinds.{kind_rules}
 use Rattle.reo_proof_texts.specs.declared.refusal.ProofRefusal.{ProofRefusal}
 use Rattle.reo_proof_texts.specs.ProofVerdicts.{IsProofVerdict}
 use Rattle.reo_verify_proof.specs.Answered.{IfVerdict}
