@@ -46,7 +46,8 @@ pub fn words_of(alloc: Global, given: io::Result<Args>) -> Result<List<Bytes>, N
 /// Has the writer give on what it holds back, and answers the status behind that: 9 where it
 /// failed, unless the status was that of memory that ran out.
 pub fn flushed<W: Write>(status: Status, out: &mut StdSink<W>) -> Status
-    ensures { IsFlushed (output_change out.old out.new) (writer_held out.new) status.code result.code }
+    ensures { IsFlushed (output_change out.old out.new) (writer_held out.new)
+        status.code result.code }
 {
     match out.flush() {
         Ok(()) => status,

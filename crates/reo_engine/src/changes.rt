@@ -6,6 +6,7 @@ ghost use Rattle.reo_net_base.specs.Colouring.{IsColouring};
 ghost use Rattle.reo_flows.specs.stepping.Changes.{AreThoseThatFlowed};
 
 use reo_flags::Flags;
+use reo_flows::mark_joint;
 use reo_net_base::{Joint, Primitive};
 use reo_net_circuit::Circuit;
 use reo_values::Value;
@@ -16,17 +17,6 @@ pub(crate) fn mark(marks: &mut Flags, index: usize)
     ensures { marks.new ≡ change_at (λ _. true) marks.old index }
 {
     marks.put(index, true);
-}
-
-/// Sets the marks of the primitives at both ends of a joint.
-fn mark_joint(marks: &mut Flags, joint: Joint)
-    requires giver { joint.giver.primitive < length marks.old }
-    requires taker { joint.taker.primitive < length marks.old }
-    ensures { let giver = set marks.old joint.giver.primitive true in
-        marks.new ≡ set giver joint.taker.primitive true }
-{
-    marks.put(joint.giver.primitive, true);
-    marks.put(joint.taker.primitive, true);
 }
 
 /// Marks exactly the primitives of which some end flows.

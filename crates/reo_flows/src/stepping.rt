@@ -6,5 +6,5 @@ mod marked;
 mod mouths;
 mod one;
 
-pub use flowing::mark_flowing;
+pub use flowing::{mark_flowing, mark_joint};
 pub use marked::step_marked;

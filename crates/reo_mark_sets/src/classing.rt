@@ -10,7 +10,7 @@ ghost use Rattle.reo_mark_sets.specs.Tallies.{IsFirstInTurn};
 use crate::listed::{classed_one, classed_two};
 use crate::marks::PlainMarks;
 use crate::sets::MarkSets;
-use reo_net_base::{Branches, Form, Mark, Table};
+use reo_net_base::{Branches, Form, Mark, Table, beginning};
 
 /// All marks without flow.
 const STILL: PlainMarks = PlainMarks {
@@ -18,13 +18,6 @@ const STILL: PlainMarks = PlainMarks {
     given: true,
     required: true,
 };
-
-/// The input with which a merger begins in the round of this number.
-fn beginning(branches: Branches, turn: u64) -> usize
-    ensures { result ≡ beginning branches.count turn }
-{
-    (turn.saturating_sub(1) % (branches.count as u64)) as usize
-}
 
 impl MarkSets {
     /// At a side with one end.

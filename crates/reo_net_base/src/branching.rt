@@ -31,7 +31,7 @@ pub(crate) fn merger_mark(branches: Branches, row: usize, end: usize) -> Mark
 }
 
 /// The input with which a merger begins in the round of this number.
-fn beginning(branches: Branches, turn: u64) -> usize
+pub fn beginning(branches: Branches, turn: u64) -> usize
     ensures { result ≡ beginning branches.count turn }
 {
     (turn.saturating_sub(1) % (branches.count as u64)) as usize

@@ -15,6 +15,7 @@ mod primitive;
 mod table;
 
 pub use branches::Branches;
+pub use branching::beginning;
 pub use colouring::{Chosen, Colouring, Move};
 pub use form::Form;
 pub use joint::{End, Joint};

@@ -27,3 +27,4 @@ pub use flows::moves;
 pub use found_ends::{Ends, ends_find_joints, ends_of, ends_stay};
 pub use layout::SideOwner;
 pub use parts::are_parts;
+pub use step::chosen;

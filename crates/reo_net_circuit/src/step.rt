@@ -11,7 +11,8 @@ use reo_net_base::{Chosen, Joint, Primitive};
 use reo_values::Value;
 
 /// The rows of the one or two sides of a primitive, of which the first is at a place.
-fn chosen<P: Primitive>(primitive: &P, first: usize, rows: &[u32]) -> Chosen
+#[inline(always)]
+pub fn chosen<P: Primitive>(primitive: &P, first: usize, rows: &[u32]) -> Chosen
     requires first { first < length rows.now }
     requires second { (P.behaviour primitive.now).sides ≡ 2 → first + 1 < length rows.now }
     ensures { result ≡ record {

@@ -5,6 +5,6 @@ mod lines;
 pub mod lists;
 mod places;
 
-pub use lines::{Reader, line, put_line};
+pub use lines::{line, put_line};
 pub use lists::item_lists;
 pub use places::{AllowedRows, KeyPlace, Number, key_places};

@@ -1,8 +1,8 @@
 //! Lines of logs, read and written.
 use reo_joint_values::JointValue;
 use reo_refute_base::LogLine;
-use reo_refute_parts::{Reader, line, put_line};
-use reo_values::Bytes;
+use reo_refute_parts::{line, put_line};
+use reo_values::{Bytes, Unread};
 use std::test::Fail;
 
 /// Lines and their texts.
@@ -53,7 +53,7 @@ fn lines_are_written_and_read(rt: HostRuntime) -> Result<(), Fail> {
         let mut out = Bytes::new(rt.alloc());
         put_line(rt.alloc(), &mut out, *want)?;
         assert!(rt; out.as_slice() == *text);
-        let mut reader = Reader::new(*text);
+        let mut reader = Unread::new(*text);
         assert!(rt; line(&mut reader) == Some(*want));
         assert!(rt; reader.is_done());
     }
@@ -63,7 +63,7 @@ fn lines_are_written_and_read(rt: HostRuntime) -> Result<(), Fail> {
 #[test]
 fn other_texts_are_no_lines(rt: HostRuntime) -> Result<(), Fail> {
     for text in NO_LINES {
-        let mut reader = Reader::new(*text);
+        let mut reader = Unread::new(*text);
         assert!(rt; line(&mut reader) == None);
     }
     Ok(())

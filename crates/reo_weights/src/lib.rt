@@ -1,4 +1,4 @@
-//! Widths, weights and budgets of the parts of a circuit, as mathematics, and what is said of a part
+//! Widths, weights and budgets of the parts of a circuit, as mathematics, and what is said of one
 //! that exceeds them. Each function is empty: its contract is a law.
 #![tactic(auto)]
 

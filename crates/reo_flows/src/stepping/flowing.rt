@@ -10,7 +10,7 @@ use reo_net_base::{Joint, Primitive};
 use reo_net_circuit::Circuit;
 
 /// Sets the marks of the primitives at both ends of a joint.
-fn mark_joint(marks: &mut Flags, joint: Joint)
+pub fn mark_joint(marks: &mut Flags, joint: Joint)
     requires giver { joint.giver.primitive < length marks.old }
     requires taker { joint.taker.primitive < length marks.old }
     ensures { let giver = set marks.old joint.giver.primitive true in

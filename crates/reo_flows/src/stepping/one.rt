@@ -5,29 +5,7 @@ ghost use Rattle.reo_net_base.specs.Sides.{side_count};
 ghost use Rattle.reo_net_base.specs.Step.{chosen_for};
 
 use reo_net_base::{Chosen, Primitive};
-use reo_net_circuit::Circuit;
-
-/// The rows of the one or two sides of a primitive, of which the first has this number.
-#[inline(always)]
-fn rows_for<P: Primitive>(primitive: &P, rows: &[u32], first: usize) -> Chosen
-    requires first { first < length rows.now }
-    requires second { (P.behaviour primitive.now).sides ≡ 2 → first + 1 < length rows.now }
-    ensures { result ≡ record {
-      first = slice_index rows.now first;
-      second = cond
-          ((P.behaviour primitive.now).sides == 2) (slice_index rows.now (first + 1)) 0;
-    } }
-{
-    let second = if primitive.sides() == 2 {
-        rows[first + 1] as usize
-    } else {
-        0
-    };
-    Chosen {
-        first: rows[first] as usize,
-        second,
-    }
-}
+use reo_net_circuit::{Circuit, chosen};
 
 /// The rows of the one or two sides of the primitive at a place.
 #[inline(always)]
@@ -38,5 +16,5 @@ pub(crate) fn chosen_for<P: Primitive>(circuit: &Circuit<P>, rows: &[u32], index
 {
     circuit.known();
     let first = circuit.first_of(index);
-    rows_for(circuit.primitive(index), rows, first)
+    chosen(circuit.primitive(index), first, rows)
 }

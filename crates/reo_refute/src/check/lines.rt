@@ -5,12 +5,13 @@ ghost use Rattle.reo_refute.specs.check.Reading.{Takes, IsShort};
 
 use crate::check::stop::LogStop;
 use reo_refute_base::LogLine;
-use reo_refute_parts::{Reader, line};
+use reo_refute_parts::line;
+use reo_values::Unread;
 
 /// What is left of a log, and how many lines were taken.
 #[derive(Drop)]
 pub(crate) struct Lines<'a> {
-    pub(crate) left: Reader<'a>,
+    pub(crate) left: Unread<'a>,
     pub(crate) count: u64,
 }
 
@@ -23,7 +24,7 @@ impl<'a> Lines<'a> {
     {
         let _length = text.len();
         Lines {
-            left: Reader::new(text),
+            left: Unread::new(text),
             count: 0,
         }
     }

@@ -4,12 +4,12 @@ ghost use Rattle.reo_refute_base.specs.Texts.{line_text, IsNumbered};
 ghost use Rattle.reo_refute_parts.specs.lines.Finds.{Finds, FindsDrop};
 
 use crate::lines::number::number_and;
-use crate::lines::reader::Reader;
 use crate::lines::value::value;
 use reo_refute_base::LogLine;
+use reo_values::Unread;
 
 /// The rest of a line that begins with `drop `.
-fn dropped(reader: &mut Reader) -> Option<LogLine>
+fn dropped(reader: &mut Unread) -> Option<LogLine>
     ensures { FindsDrop result reader.old reader.new }
 {
     match number_and(reader, b' ') {
@@ -26,7 +26,7 @@ fn dropped(reader: &mut Reader) -> Option<LogLine>
 
 /// The line that stands next, with its line feed, if one of the four forms stands there, with
 /// numbers below 2^63. Where none does, what is left after it is not said.
-pub fn line(reader: &mut Reader) -> Option<LogLine>
+pub fn line(reader: &mut Unread) -> Option<LogLine>
     ensures { Finds IsNumbered line_text result reader.old reader.new }
 {
     if reader.word(b"drop ") {

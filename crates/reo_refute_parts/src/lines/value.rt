@@ -4,11 +4,11 @@ ghost use Rattle.reo_refute_base.specs.Texts.{value_words, IsValueNumbered};
 ghost use Rattle.reo_refute_parts.specs.lines.Finds.{Finds};
 
 use crate::lines::number::number_and;
-use crate::lines::reader::Reader;
 use reo_joint_values::JointValue;
+use reo_values::Unread;
 
 /// A value and the space behind it.
-pub(crate) fn value(reader: &mut Reader) -> Option<JointValue>
+pub(crate) fn value(reader: &mut Unread) -> Option<JointValue>
     ensures { Finds IsValueNumbered (λ v. value_words v ++ 32 ∷ []) result reader.old reader.new }
 {
     if reader.word(b"rg ") {

@@ -2,19 +2,7 @@
 ghost use Rattle.std.specs.Prelude.{◌≡◌, ◌↔◌, ◌∷◌, [], IsTrue, OnOk, Contains};
 ghost use Rattle.reo_refute_parts.specs.lists.Noted.{IsNoted};
 
-use reo_values::{List, NoMemory, Value, same_item};
-
-/// Whether an item is in a list.
-fn is_among(items: &[Value], item: &Value) -> bool
-    ensures { IsTrue result ↔ Contains items.now item.now }
-{
-    for other in items {
-        if same_item(other, item) {
-            return true;
-        }
-    }
-    false
-}
+use reo_values::{List, NoMemory, Value, is_among};
 
 /// Adds an item to those that are new at a joint, unless it is there or among them.
 pub(crate) fn note(old: &[Value], new: &mut List<Value>, item: Value) -> Result<(), NoMemory>
