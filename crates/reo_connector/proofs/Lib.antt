@@ -1,3 +1,4 @@
 pub mod Alone
+pub mod MadeLemmas
 pub mod Named
 pub mod OpenedLemmas

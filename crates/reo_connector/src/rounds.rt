@@ -5,8 +5,9 @@ ghost use Rattle.reo_connector.specs.Rounds.{IsMade};
 ghost use Rattle.reo_rounds.specs.Plans.{IsPlanFault};
 
 use crate::connector::Connector;
-use reo_rounds::{Done, Exceeds};
+use reo_rounds::{Done, Exceeds, jammed_sides};
 use reo_steps::Steps;
+use reo_trace::RoundLine;
 use std::alloc::Global;
 use std::marker::Brand;
 use std::sync::ledger::{Blank, Ledger};
@@ -29,9 +30,19 @@ impl Connector {
         ensures refused { OnErr result (self.new ≡ self.old) }
     {
         let mut steps = Steps::<L>::new(blank);
-        self.engine.prepare(alloc, budget, &mut steps)?;
-        let plan = self.engine.plan(alloc, budget, &mut steps)?;
-        Ok(self.engine.commit(plan))
+        self.engine.known();
+        let made = self
+            .engine
+            .make_round(alloc, &self.ports, budget, &mut steps)?;
+        let (round, text) = made;
+        self.engine.hand_back(text);
+        let jammed = jammed_sides(self.engine.circuit(), round.colouring.rows.as_slice());
+        let RoundLine { idle, moves, .. } = self.engine.finish_round(round);
+        Ok(Done {
+            moves,
+            idle,
+            jammed,
+        })
     }
 
     /// Makes the round that comes next: that of the first colouring. It answers the ports that

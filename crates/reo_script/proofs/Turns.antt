@@ -10,7 +10,7 @@ use Rattle.reo_script.specs.scripts.ScriptForms.{ScriptFormOf, script_rules}
 use Rattle.reo_script.specs.scripts.Table.{script_sound}
 
 -- Going on with further parts behind a first one.
-abbrev pub goes_on : {A B : Type 0} → (A → B → A) → Class → ScriptFormOf B → ℕ → A → List Lexeme → ScriptReading A
+abbrev pub goes_on : {A B : Type 0} → (A → B → A) → Class → ScriptFormOf B → ℕ → A → List Lexeme → Outcome A
 goes_on f c h room x ts = loop f c (read (reads script_rules room) h) (length ts) x ts
 
 -- One turn more, from these tokens to those.

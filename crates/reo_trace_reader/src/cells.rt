@@ -1,5 +1,5 @@
 //! Entries of round lines.
-ghost use Rattle.std.specs.Prelude.{◌≡◌};
+ghost use Rattle.std.specs.Prelude.{◌≡◌, false, true};
 ghost use Rattle.std.specs.List.{All};
 ghost use Rattle.reo_trace.specs.RoundText.{cell_text, entry_text};
 ghost use Rattle.reo_trace.specs.Spaced.{spaced};

@@ -18,18 +18,18 @@ use Rattle.reo_terms.specs.Reading.{read_plain}
 abbrev pub joined : IndexUnit → List SignedUnit → Index
 joined u us = record { units = unsigned u ∷ us }
 
-grown-got : (m : Parsing (List SignedUnit)) (u : IndexUnit) (us : List SignedUnit) (r : List Lexeme)
+grown-got : (m : Outcome (List SignedUnit)) (u : IndexUnit) (us : List SignedUnit) (r : List Lexeme)
     → then m (λ vs s. got ((unsigned u ∷ []) ++ vs) s) ≡ got us r → then m (λ vs s. got (joined u vs) s) ≡ got (record { units = us }) r
 grown-got (got vs s) u us r e = let i : unsigned u ∷ vs ≡ us = cc in let j : s ≡ r = cc in rw (← i, ← j) refl
 grown-got (bad s) u us r e = absurd (cc)
 grown-got out u us r e = absurd (cc)
 
-grown-bad : (m : Parsing (List SignedUnit)) (u : IndexUnit) (r : List Lexeme) → then m (λ vs s. got ((unsigned u ∷ []) ++ vs) s) ≡ bad r → then m (λ vs s. got (joined u vs) s) ≡ bad r
+grown-bad : (m : Outcome (List SignedUnit)) (u : IndexUnit) (r : List Lexeme) → then m (λ vs s. got ((unsigned u ∷ []) ++ vs) s) ≡ bad r → then m (λ vs s. got (joined u vs) s) ≡ bad r
 grown-bad (got vs s) u r e = absurd (cc)
 grown-bad (bad s) u r e = let i : s ≡ r = cc in ap bad i
 grown-bad out u r e = absurd (cc)
 
-grown-out : (m : Parsing (List SignedUnit)) (u : IndexUnit) → then m (λ vs s. got ((unsigned u ∷ []) ++ vs) s) ≡ out → then m (λ vs s. got (joined u vs) s) ≡ out
+grown-out : (m : Outcome (List SignedUnit)) (u : IndexUnit) → then m (λ vs s. got ((unsigned u ∷ []) ++ vs) s) ≡ out → then m (λ vs s. got (joined u vs) s) ≡ out
 grown-out (got vs s) u e = absurd (cc)
 grown-out (bad s) u e = absurd (cc)
 grown-out out u e = refl

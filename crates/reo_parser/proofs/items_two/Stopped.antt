@@ -17,7 +17,7 @@ use Rattle.reo_cursor.specs.Reading.{Gives, word_at}
 use Rattle.reo_terms.specs.Reading.{read_plain}
 use Rattle.reo_terms.proofs.Turns.{goes_on}
 
-then-stops : {A B : Type 0} (o : Parsing A) (f : A → List Lexeme → Parsing B) (left : List Lexeme) (halt : Halt) → Gives {A = A} (Err halt) left o → Gives {A = B} (Err halt) left (then o f)
+then-stops : {A B : Type 0} (o : Outcome A) (f : A → List Lexeme → Outcome B) (left : List Lexeme) (halt : Halt) → Gives {A = A} (Err halt) left o → Gives {A = B} (Err halt) left (then o f)
 then-stops o f left halts.Syntax e = rw e refl
 then-stops o f left halts.Room e = rw e refl
 then-stops o f left halts.NoMemory e = tt

@@ -30,7 +30,7 @@ within_alike zero r = refl
 within_alike (suc k) r = form_alike (Within script_rules k) (Within circuit_rules k) (within_alike k) (circuit_rules r)
 
 -- A lifted form is read alike, where rules are.
-module _ (o : (r : ScriptRule) → List Lexeme → ScriptReading (script_tree r)) (u : (r : Rule) → List Lexeme → ScriptReading (tree_of r)) (alike : (r : Rule) → o (of_circuit r) ≡ u r) where
+module _ (o : (r : ScriptRule) → List Lexeme → Outcome (script_tree r)) (u : (r : Rule) → List Lexeme → Outcome (tree_of r)) (alike : (r : Rule) → o (of_circuit r) ≡ u r) where
   pub read_alike : {A : Type 0} (g : FormOf A) → read o (lifted g) ≡ read u g
   read_alike (nothing x) = refl
   read_alike (token c) = refl
