@@ -5,7 +5,7 @@ use Rattle.reo_drawing.proofs.label_texts.Unfold.{form-one, form-two, form-if, j
 use Rattle.reo_drawing.proofs.label_texts.expr.+form.Goals as goal
 
 pub append_form-returns-in-One : goal.append_form-returns-in-One
-append_form-returns-in-One t c = rw (c.in-One.is, form-one c.args.inner c.in-One.operator c.in-One.operand, ← c.get.ensures) c.append_applied.ensures
+append_form-returns-in-One t c = rw (c.in-One.is, form-one c.args.inner c.in-One.operator c.in-One.operand, ← c.get-in-One.ensures) c.append_applied.ensures
 
 pub append_form-returns-in-Pair : goal.append_form-returns-in-Pair
 append_form-returns-in-Pair t c = rw (c.in-Two.is, form-two c.args.inner c.in-Two.operator c.in-Two.pair, c.in-Pair.is, ← c.get-pair.ensures) c.append_pair.ensures
