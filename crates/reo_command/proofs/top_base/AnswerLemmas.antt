@@ -96,7 +96,7 @@ module _ {X : Type 0} (Reads : List Content → X → Type 0) (Stops : List Cont
 
   -- What it made of what it read.
   module _ (x : X) (reads : Reads answers x) (cases : Cases (Makes x) sink code) where
-    code_in : (P : ℕ → Type 0) → ((bytes : List ℕ) (status : ℕ) → Makes x bytes status → P status) → P 9 → P 10 → P code
+    pub code_in : (P : ℕ → Type 0) → ((bytes : List ℕ) (status : ℕ) → Makes x bytes status → P status) → P 9 → P 10 → P code
     code_in P makes nine ten = elim cases [
       | inl wrote ↦ makes wrote.bytes code wrote.owed
       | inr (inl broke) ↦ subst P (sym broke.code_is) nine
@@ -111,7 +111,7 @@ module _ {X : Type 0} (Reads : List Content → X → Type 0) (Stops : List Cont
     of_made bytes status (inl stopped) = absurd (law.apart x stopped.0 reads stopped.1)
     of_made bytes status (inr made) = subst (λ (y : X). Makes y bytes status) (law.one made.0 x made.1 reads) made.2
 
-    made_exact : (free : Bool) → IsExactFor free (Makes x) sink code → IsExactFor free (owed_by Reads Stops Makes answers) sink code
+    pub made_exact : (free : Bool) → IsExactFor free (Makes x) sink code → IsExactFor free (owed_by Reads Stops Makes answers) sink code
     made_exact true exact = λ bytes status owed. exact bytes status (of_made bytes status owed)
     made_exact false exact = λ bytes status owed. exact bytes status (of_made bytes status owed)
 
@@ -141,7 +141,7 @@ module _ {X : Type 0} (Reads : List Content → X → Type 0) (Stops : List Cont
         → (roles : List Role) (names : List (List ℕ)) (files : Change FilesState) → AreFetched roles names answers files → IsAnswered true (owed_by Reads Stops Makes) roles names files sink code
     freely_made exact not_three roles names files fetched = made_answered_with false true exact (λ three. absurd (never_three not_three three)) roles names files fetched
 
-    some_failed : (failed gone : Bool) → failed ≡ true → (failed || gone) ≡ true
+    pub some_failed : (failed gone : Bool) → failed ≡ true → (failed || gone) ≡ true
     some_failed true gone is = refl
     some_failed false gone is = absurd cc
 

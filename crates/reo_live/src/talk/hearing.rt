@@ -1,5 +1,5 @@
 //! Lines that are heard, and pieces.
-ghost use Rattle.std.specs.Prelude.{◌≡◌, ◌<◌, ◌≤◌, ◌+◌, ◌^◌, ◌⊎◌, length, All, [], false, IfOk, Err, ◌×◌, Option};
+ghost use Rattle.std.specs.Prelude.{◌≡◌, ◌<◌, ◌≤◌, ◌+◌, ◌^◌, ◌⊎◌, length, All, [], false, IfOk, Err, Option};
 ghost use Rattle.reo_io.specs.Causes.{Rose};
 ghost use Rattle.reo_rules.specs.literals.Items.{HasFewNames};
 ghost use Rattle.reo_net_base.specs.declared.port.Port.{Port as APort};

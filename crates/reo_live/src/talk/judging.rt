@@ -1,5 +1,5 @@
 //! Lines that are judged.
-ghost use Rattle.std.specs.Prelude.{◌≡◌, ◌<◌, ◌≤◌, ◌+◌, ◌^◌, ◌×◌, List, Option, length, All, cond, IfOk, Ok, Some, None, false};
+ghost use Rattle.std.specs.Prelude.{◌≡◌, ◌<◌, ◌≤◌, ◌+◌, ◌^◌, List, Option, length, All, cond, IfOk, Ok, Some, None, false};
 ghost use Rattle.reo_rules.specs.literals.Items.{HasFewNames};
 ghost use Rattle.reo_net_base.specs.declared.port.Port.{Port as APort};
 ghost use Rattle.reo_rounds.specs.Rules.{rules_of};
