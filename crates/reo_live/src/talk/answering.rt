@@ -1,5 +1,5 @@
 //! Answers that are written.
-ghost use Rattle.std.specs.Prelude.{◌≡◌, ◌<◌, ◌≤◌, List, Option, IfOk, OnOk, IsErrOf, Err};
+ghost use Rattle.std.specs.Prelude.{◌≡◌, ◌≢◌, ◌<◌, ◌≤◌, List, Option, IfOk, OnOk, IsErrOf, Err};
 ghost use Rattle.reo_io.specs.Causes.{Rose};
 ghost use Rattle.reo_io.specs.Sinks.{Appended, TookPart};
 ghost use Rattle.reo_net_base.specs.declared.port.Port.{Port as APort};
@@ -56,8 +56,9 @@ fn write_reply<S: Sink>(
 
 /// What is returned behind what was told.
 fn outcome_of(reply: &Reply) -> Result<Going, LiveFault>
-    ensures { (ports : List APort) (answer : AnAnswer) → Tells ports reply.now answer
+    ensures outcome { (ports : List APort) (answer : AnAnswer) → Tells ports reply.now answer
         → result ≡ outcome_of answer }
+    ensures no_fault { result ≢ Err faults.Failed }
 {
     match reply {
         Reply::Made(_) => Ok(Going::More),
