@@ -5,7 +5,7 @@
 //! the events of the input.
 #![tactic(auto)]
 
-ghost use Rattle.std.specs.Prelude.{◌≡◌, ◌↔◌, IsTrue, MatchResult, Some};
+ghost use Rattle.std.specs.Prelude.{◌≡◌, ◌↔◌, IsTrue, MatchResult, Some, false};
 ghost use Rattle.std.specs.Process.{exit_status};
 ghost use Rattle.reo_command.specs.Commands.{command_of};
 ghost use Rattle.reo_command.specs.Outside.{HasEnded, IsOut, output_change};

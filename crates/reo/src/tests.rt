@@ -107,35 +107,6 @@ fn the_process_ends_with_the_status(rt: HostRuntime) -> Result<(), Fail> {
     Ok(())
 }
 
-/// Whether each command ends well, with all its options.
-fn all_end_well(
-    rt: &HostRuntime,
-    c: &[u8],
-    s: &[u8],
-    t: &[u8],
-    p: &[u8],
-) -> Result<bool, NoMemory> {
-    let run: &[&[u8]] = &[b"run", c, s, b"--budget", b"5", b"--rounds", b"5"];
-    let lines: [&[&[u8]]; 10] = [
-        run,
-        &[b"check", c],
-        &[b"print", c],
-        &[b"upgrade", c],
-        &[b"verify", c, s, t],
-        &[b"bench", b"1"],
-        &[b"live", c, b"--budget", b"5"],
-        &[b"list", c],
-        &[b"prove", c, s],
-        &[b"verify-proof", c, s, p],
-    ];
-    for line in lines {
-        if code(rt, line)? != ExitCode::from(0) {
-            return Ok(false);
-        }
-    }
-    Ok(true)
-}
-
 #[test]
 fn each_command_ends_well(rt: HostRuntime) -> Result<(), Fail> {
     let alloc = rt.alloc();
@@ -149,7 +120,18 @@ fn each_command_ends_well(rt: HostRuntime) -> Result<(), Fail> {
     fs::write(&rt, trace.as_str(), TRACE)?;
     fs::write(&rt, proof.as_str(), PROVED)?;
     let (c, s) = (circuit.as_bytes(), script.as_bytes());
-    assert!(rt; all_end_well(&rt, c, s, trace.as_bytes(), proof.as_bytes())?);
+    let (t, p) = (trace.as_bytes(), proof.as_bytes());
+    let run = code(&rt, &[b"run", c, s, b"--budget", b"5", b"--rounds", b"5"])?;
+    assert!(rt; run == ExitCode::from(0));
+    assert!(rt; code(&rt, &[b"check", c])? == ExitCode::from(0));
+    assert!(rt; code(&rt, &[b"print", c])? == ExitCode::from(0));
+    assert!(rt; code(&rt, &[b"upgrade", c])? == ExitCode::from(0));
+    assert!(rt; code(&rt, &[b"verify", c, s, t])? == ExitCode::from(0));
+    assert!(rt; code(&rt, &[b"bench", b"1"])? == ExitCode::from(0));
+    assert!(rt; code(&rt, &[b"live", c, b"--budget", b"5"])? == ExitCode::from(0));
+    assert!(rt; code(&rt, &[b"list", c])? == ExitCode::from(0));
+    assert!(rt; code(&rt, &[b"prove", c, s])? == ExitCode::from(0));
+    assert!(rt; code(&rt, &[b"verify-proof", c, s, p])? == ExitCode::from(0));
     fs::remove_file(&rt, circuit.as_str())?;
     fs::remove_file(&rt, script.as_str())?;
     fs::remove_file(&rt, trace.as_str())?;
