@@ -10,3 +10,6 @@ mod step;
 mod stop;
 
 pub use checking::check_proof;
+pub(crate) use lines::Lines;
+pub(crate) use part::check_part;
+pub(crate) use stop::LogStop;

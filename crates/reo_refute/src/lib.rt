@@ -7,5 +7,4 @@ pub mod proving;
 mod round;
 
 pub use check::check_proof;
-pub use next::next_line;
 pub use proving::prove;

@@ -6,4 +6,7 @@ mod looking;
 mod next;
 mod values;
 
-pub use next::next_line;
+pub(crate) use joint::line_at_side;
+pub(crate) use looking::has_two;
+pub(crate) use next::next_line;
+pub(crate) use values::after;

@@ -7,4 +7,6 @@ mod circuits;
 #[cfg(test)]
 mod making;
 #[cfg(test)]
+mod parts;
+#[cfg(test)]
 mod writers;

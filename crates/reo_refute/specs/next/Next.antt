@@ -44,3 +44,8 @@ LeadsOn net lists allowed live (Split j) = (j < length net.joints) × AreTwo lis
 abbrev pub IsNextLine : Net → Lists → (ℕ → ℕ → Type 0) → Family → Option LogLine → Type 0
 IsNextLine net lists allowed live None = IsSettled net lists allowed live
 IsNextLine net lists allowed live (Some line) = LeadsOn net lists allowed live line
+
+-- A line that leads on, or none.
+abbrev pub MayLead : Net → Lists → (ℕ → ℕ → Type 0) → Family → Option LogLine → Type 0
+MayLead net lists allowed live None = Unit {0}
+MayLead net lists allowed live (Some line) = LeadsOn net lists allowed live line

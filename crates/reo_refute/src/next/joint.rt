@@ -17,12 +17,14 @@ use reo_refute_base::LogLine;
 use reo_refute_live::{Judged, Open};
 use reo_values::NoMemory;
 
-/// A value of a joint that may go at a side of it, if there is one. `NoMemory` is out of memory.
+/// The first value of a joint, of those from a place on, that may go at a side of it, if there is
+/// one. `NoMemory` is out of memory.
 fn goes_at<P: Primitive>(
     judged: &Judged<'_, P>,
     live: &Open,
     joint: usize,
     side: usize,
+    from: usize,
     rows: &mut Vec<u8>,
 ) -> Result<Option<JointValue>, NoMemory>
     requires judged { IsJudged (net_of P.behaviour judged.now.circuit.now) judged.now }
@@ -31,12 +33,12 @@ fn goes_at<P: Primitive>(
     requires at { AtSide (net_of P.behaviour judged.now.circuit.now) joint side }
     ensures { let net = net_of P.behaviour judged.now.circuit.now in
         let family = family_of live.now.table in
-        IfOk result (λ found. MatchOption found
-        (AreSupported net judged.now.lists.now (allowed_in net judged.now) family joint side)
+        IfOk result (λ found. MatchOption found (from ≡ 0
+        → AreSupported net judged.now.lists.now (allowed_in net judged.now) family joint side)
         (λ v. MayGo net judged.now.lists.now (allowed_in net judged.now) family joint v side
         × Contains (live_at judged.now.lists.now family joint) v)) }
 {
-    for place in 0..value_count(judged.lists, joint) {
+    for place in from..value_count(judged.lists, joint) {
         let value = value_at(judged.lists, joint, place);
         if may_go(judged, live, joint, value, side, rows)? {
             return Ok(Some(value));
@@ -45,12 +47,14 @@ fn goes_at<P: Primitive>(
     Ok(None)
 }
 
-/// The line of a value that may go at a side of a joint, if there is one.
-fn line_at_side<P: Primitive>(
+/// The line of the first value of a joint, of those from a place on, that may go at a side of it, if
+/// there is one. `NoMemory` is out of memory.
+pub(crate) fn line_at_side<P: Primitive>(
     judged: &Judged<'_, P>,
     live: &Open,
     joint: usize,
     side: usize,
+    from: usize,
     rows: &mut Vec<u8>,
 ) -> Result<Option<LogLine>, NoMemory>
     requires judged { IsJudged (net_of P.behaviour judged.now.circuit.now) judged.now }
@@ -59,11 +63,11 @@ fn line_at_side<P: Primitive>(
     requires at { AtSide (net_of P.behaviour judged.now.circuit.now) joint side }
     ensures { let net = net_of P.behaviour judged.now.circuit.now in
         let family = family_of live.now.table in
-        IfOk result (λ found. MatchOption found
-        (AreSupported net judged.now.lists.now (allowed_in net judged.now) family joint side)
+        IfOk result (λ found. MatchOption found (from ≡ 0
+        → AreSupported net judged.now.lists.now (allowed_in net judged.now) family joint side)
         (LeadsOn net judged.now.lists.now (allowed_in net judged.now) family)) }
 {
-    match goes_at(judged, live, joint, side, rows)? {
+    match goes_at(judged, live, joint, side, from, rows)? {
         Some(value) => Ok(Some(LogLine::Drop(joint, value, side))),
         None => Ok(None),
     }
@@ -93,10 +97,10 @@ pub(crate) fn line_at<P: Primitive>(
     let ends = judged.circuit.joint(joint);
     let giver = judged.circuit.side_of(ends.giver);
     let taker = judged.circuit.side_of(ends.taker);
-    match line_at_side(judged, live, joint, giver, rows)? {
+    match line_at_side(judged, live, joint, giver, 0, rows)? {
         Some(line) => Ok(Some(line)),
         None => {
-            let found = line_at_side(judged, live, joint, taker, rows)?;
+            let found = line_at_side(judged, live, joint, taker, 0, rows)?;
             Ok(found)
         }
     }

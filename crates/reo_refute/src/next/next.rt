@@ -15,12 +15,11 @@ use reo_refute_base::LogLine;
 use reo_refute_live::{Judged, Open};
 use reo_values::{List, NoMemory, Value};
 
-/// The line of the first joint of some in a row at which no value is live, or one may go, if there
-/// is such a joint.
+/// The line of the first joint, of so many, at which no value is live, or one may go, if there is
+/// such a joint.
 fn kept_or_line<P: Primitive>(
     judged: &Judged<'_, P>,
     live: &Open,
-    from: usize,
     to: usize,
     rows: &mut Vec<u8>,
 ) -> Result<Option<LogLine>, NoMemory>
@@ -30,11 +29,11 @@ fn kept_or_line<P: Primitive>(
     ensures { let net = net_of P.behaviour judged.now.circuit.now in
         let family = family_of live.now.table in
         IfOk result (λ found. MatchOption found
-        ((j : ℕ) → from ≤ j → j < to
+        ((j : ℕ) → j < to
         → IsKept net judged.now.lists.now (allowed_in net judged.now) family j)
         (LeadsOn net judged.now.lists.now (allowed_in net judged.now) family)) }
 {
-    for joint in from..to {
+    for joint in 0..to {
         match line_at(judged, live, joint, rows)? {
             Some(line) => return Ok(Some(line)),
             None => {}
@@ -62,13 +61,11 @@ fn first_double(lists: &[List<Value>], live: &Open) -> Option<usize>
 
 /// The next line of a branch at a place: `Drop` of a live value that has no support, or `Empty` of
 /// a joint at which no value is live, or `Split` of one at which two are; or `None` where at each
-/// joint one value is live, with support at both its sides. Joints are looked at from the one of a
-/// number on, which may be any, and then those before it. What the buffer held does not matter.
+/// joint one value is live, with support at both its sides. What the buffer held does not matter.
 /// `NoMemory` is out of memory.
-pub fn next_line<P: Primitive>(
+pub(crate) fn next_line<P: Primitive>(
     judged: &Judged<'_, P>,
     live: &Open,
-    from: usize,
     rows: &mut Vec<u8>,
 ) -> Result<Option<LogLine>, NoMemory>
     requires judged { IsJudged (net_of P.behaviour judged.now.circuit.now) judged.now }
@@ -78,15 +75,11 @@ pub fn next_line<P: Primitive>(
         (family_of live.now.table)) }
 {
     let count = judged.circuit.joint_count();
-    let from = from.min(count);
-    match kept_or_line(judged, live, from, count, rows)? {
+    match kept_or_line(judged, live, count, rows)? {
         Some(line) => Ok(Some(line)),
-        None => match kept_or_line(judged, live, 0, from, rows)? {
-            Some(line) => Ok(Some(line)),
-            None => match first_double(judged.lists, live) {
-                Some(joint) => Ok(Some(LogLine::Split(joint))),
-                None => Ok(None),
-            },
+        None => match first_double(judged.lists, live) {
+            Some(joint) => Ok(Some(LogLine::Split(joint))),
+            None => Ok(None),
         },
     }
 }

@@ -5,6 +5,7 @@ ghost use Rattle.reo_refute_base.specs.Live.{values_of};
 ghost use Rattle.reo_refute_live.specs.Open.{AreSmall};
 
 use reo_joint_values::JointValue;
+use reo_refute_base::LogLine;
 use reo_values::{List, Value};
 
 /// How many values a joint has.
@@ -39,5 +40,31 @@ pub(crate) fn value_at(lists: &[List<Value>], joint: usize, place: usize) -> Joi
         JointValue::Flow(place as u32)
     } else {
         still_at(place - items)
+    }
+}
+
+/// The place behind that of a value among those of its joint. The value may be any.
+fn behind(items: usize, value: JointValue) -> usize {
+    match value {
+        JointValue::Flow(number) => (number as usize).saturating_add(1),
+        JointValue::RG => items.saturating_add(1),
+        JointValue::GR => items.saturating_add(2),
+        JointValue::GG => items.saturating_add(3),
+        JointValue::Jam => items.saturating_add(4),
+    }
+}
+
+/// The place behind that of the value that goes by a line, among those of its joint; 0 for another
+/// line.
+pub(crate) fn after(lists: &[List<Value>], line: LogLine) -> usize {
+    match line {
+        LogLine::Drop(joint, value, _) => {
+            let items = match lists.get(joint) {
+                Some(list) => list.len(),
+                None => 0,
+            };
+            behind(items, value)
+        }
+        _ => 0,
     }
 }

@@ -1,9 +1,9 @@
 //! Going on in a branch.
-ghost use Rattle.std.specs.Prelude.{◌≡◌, ◌<◌, ℕ, List, [], IfOk, IsTrue, cond, length};
+ghost use Rattle.std.specs.Prelude.{◌≡◌, ◌<◌, ℕ, List, [], false, IfOk, IsTrue, cond, length};
 ghost use Rattle.reo_net_base.specs.Net.{net_of};
 ghost use Rattle.reo_refute_live.specs.Judged.{IsJudged, allowed_in};
 ghost use Rattle.reo_refute_live.specs.support.Families.{family_of};
-ghost use Rattle.reo_refute_live.specs.Open.{open_in, IsOpen};
+ghost use Rattle.reo_refute_live.specs.Open.{open_in, IsOpen, IsClosed};
 ghost use Rattle.reo_refute.specs.next.Next.{LeadsOn};
 ghost use Rattle.reo_refute.specs.proving.Making.{AreFew, LeadsTo};
 
@@ -28,6 +28,7 @@ pub(crate) fn go_on<P: Primitive>(
         (allowed_in (net_of P.behaviour judged.now.circuit.now) judged.now)
         (family_of live.old.table) line }
     ensures open { IfOk result (λ more. IsTrue more → IsOpen judged.now.lists.now live.new) }
+    ensures closed { IfOk result (λ more. more ≡ false → IsClosed judged.now.lists.now live.new) }
     ensures leads { let net = net_of P.behaviour judged.now.circuit.now in
         IfOk result (λ more. LeadsTo net judged.now.lists.now (allowed_in net judged.now)
         (open_in live.old) (cond more (open_in live.new) []) line) }

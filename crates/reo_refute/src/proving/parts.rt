@@ -3,11 +3,13 @@ ghost use Rattle.std.specs.Prelude.{◌≡◌, ◌≤◌, ◌<◌, ◌^◌, ◌+
 ghost use Rattle.reo_net_base.specs.Net.{net_of};
 ghost use Rattle.reo_net_base.specs.First.{positions};
 ghost use Rattle.reo_refute_base.specs.Places.{IsLive, NoneBefore};
+ghost use Rattle.reo_refute_live.specs.Open.{IsClosed};
 ghost use Rattle.reo_refute_parts.specs.places.AllowedRows.{AreAgreeing, AreAllowedRows};
 ghost use Rattle.reo_refute.specs.proving.Making.{AreFew, ArePartsMade};
 ghost use Rattle.reo_refute.specs.Round.{IsRound};
 
 use crate::proving::branch::put_branch;
+use crate::proving::scratch::Scratch;
 use crate::round::Round;
 use reo_joint_values::choices_are_assignments;
 use reo_net_base::Primitive;
@@ -22,7 +24,7 @@ fn put_live<P: Primitive>(
     round: &Round<'_, P>,
     number: usize,
     allowed: &AllowedRows,
-    rows: &mut Vec<u8>,
+    scratch: &mut Scratch,
     out: &mut Bytes,
 ) -> Result<(), NoMemory>
     requires round { IsRound (net_of P.behaviour round.now.circuit.now) round.now }
@@ -34,7 +36,9 @@ fn put_live<P: Primitive>(
     requires live { IsLive (net_of P.behaviour round.now.circuit.now) round.now.turn
         round.now.given.now number }
     requires small { number < 2 ^ 63 }
-    ensures { let net = net_of P.behaviour round.now.circuit.now in
+    requires closed { IsClosed round.now.lists.now scratch.old.live }
+    ensures closed { OnOk result (IsClosed round.now.lists.now scratch.new.live) }
+    ensures made { let net = net_of P.behaviour round.now.circuit.now in
         OnOk result (ArePartsMade net round.now.turn round.now.given.now round.now.lists.now number
         (number + 1) out.old
         out.new) }
@@ -53,7 +57,7 @@ fn put_live<P: Primitive>(
         lists: round.lists,
         tables: round.tables,
     };
-    put_branch(round.alloc, &judged, rows, out)?;
+    put_branch(round.alloc, &judged, scratch, out)?;
     Ok(())
 }
 
@@ -62,7 +66,7 @@ fn put_place<P: Primitive>(
     round: &Round<'_, P>,
     number: usize,
     allowed: &mut AllowedRows,
-    rows: &mut Vec<u8>,
+    scratch: &mut Scratch,
     out: &mut Bytes,
 ) -> Result<(), NoMemory>
     requires round { IsRound (net_of P.behaviour round.now.circuit.now) round.now }
@@ -73,6 +77,8 @@ fn put_place<P: Primitive>(
     requires agreeing { AreAgreeing (net_of P.behaviour round.now.circuit.now) round.now.turn
         round.now.given.now number allowed.old.agreeing }
     requires small { number < 2 ^ 63 }
+    requires closed { IsClosed round.now.lists.now scratch.old.live }
+    ensures closed { OnOk result (IsClosed round.now.lists.now scratch.new.live) }
     ensures made { let net = net_of P.behaviour round.now.circuit.now in
         OnOk result (ArePartsMade net round.now.turn round.now.given.now round.now.lists.now number
         (number + 1) out.old
@@ -83,7 +89,7 @@ fn put_place<P: Primitive>(
 {
     let place = round.places[number];
     if allowed.come_to(round.circuit, round.turn, round.given, number, place)? {
-        put_live(round, number, allowed, rows, out)?;
+        put_live(round, number, allowed, scratch, out)?;
     }
     allowed.pass(round.circuit, round.turn, round.given, number, place);
     Ok(())
@@ -101,9 +107,9 @@ pub(crate) fn put_parts<P: Primitive>(round: &Round<'_, P>, out: &mut Bytes) -> 
         out.old out.new) }
 {
     let mut allowed = AllowedRows::new(round.alloc, round.circuit)?;
-    let mut rows = Vec::new(round.alloc);
+    let mut scratch = Scratch::new(round.alloc, round.tables.len(), round.lists)?;
     for number in 0..round.places.len() {
-        put_place(round, number, &mut allowed, &mut rows, out)?;
+        put_place(round, number, &mut allowed, &mut scratch, out)?;
     }
     Ok(())
 }

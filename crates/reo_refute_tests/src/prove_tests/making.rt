@@ -1,5 +1,6 @@
 //! Logs that are made.
 use crate::prove_tests::circuits::{drained, synced};
+use crate::prove_tests::parts::{both, doubled, resting};
 use crate::prove_tests::writers::merged;
 use reo_kinds::Kind;
 use reo_net::plain_first;
@@ -61,5 +62,46 @@ fn made_logs_are_right(rt: HostRuntime) -> Result<(), Fail> {
 fn no_place_is_live(rt: HostRuntime) -> Result<(), Fail> {
     let log = made(&rt, rt.alloc(), &synced(&rt, rt.alloc())?, &[0, 0, 0])?;
     assert!(rt; log.as_slice().is_empty());
+    Ok(())
+}
+
+/// How many lines a text has.
+fn count_lines(text: &[u8]) -> usize {
+    let mut count: usize = 0;
+    for index in 0..text.len() {
+        if text[index] == b'\n' {
+            count = count.saturating_add(1);
+        }
+    }
+    count
+}
+
+/// How many lines the log has that is made for the first round, which is right.
+fn lines(rt: &impl Abort, alloc: Global, circuit: &Circuit<Kind>) -> Result<usize, Fail> {
+    let first = plain_first(alloc, circuit, 1)?;
+    let rows = first.rows.as_slice();
+    let ends = ends_of(alloc, circuit)?;
+    match item_lists(alloc, circuit, &ends)? {
+        None => {
+            assert!(rt; false);
+            Ok(0)
+        }
+        Some(_) => {
+            let log = prove(alloc, circuit, 1, rows)?;
+            assert!(rt; check_proof(alloc, circuit, 1, rows, log.as_slice()) == Ok(()));
+            Ok(count_lines(log.as_slice()))
+        }
+    }
+}
+
+/// A part that has nothing to do with a place adds no line to the part of the log for that place:
+/// two parts together take the lines of one and those of the other, also where one is split.
+#[test]
+fn parts_add_their_own_lines(rt: HostRuntime) -> Result<(), Fail> {
+    let one = lines(&rt, rt.alloc(), &resting(&rt, rt.alloc())?)?;
+    let other = lines(&rt, rt.alloc(), &doubled(&rt, rt.alloc())?)?;
+    let together = lines(&rt, rt.alloc(), &both(&rt, rt.alloc())?)?;
+    assert!(rt; one > 0 && other > 0);
+    assert!(rt; together == one.saturating_add(other));
     Ok(())
 }

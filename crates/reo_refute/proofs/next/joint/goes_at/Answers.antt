@@ -1,5 +1,6 @@
-use Rattle.std.proofs.Common.{◌≡◌, ◌<◌, ℕ, length, get_or, true, subst, arith, below_more}
+use Rattle.std.proofs.Common.{◌≡◌, ◌<◌, inl, inr, ℕ, length, get_or, true, subst, sym, arith}
 use Rattle.reo_net_base.specs.Net.{Net, net_of}
+use Rattle.reo_net_circuit.proofs.Cases.{eq_cases}
 use Rattle.reo_joint_values.specs.declared.value.JointValue.{JointValue}
 use Rattle.reo_joint_values.specs.declared.value.JointValue.TheVariants.{Jam}
 use Rattle.reo_joint_values.specs.Values.{Family}
@@ -23,12 +24,15 @@ loop-place-preserved g c =
     let net : Net = net_of g.P.Primitive.behaviour c.args.judged.now.circuit.now in
     let f : Family = family_of c.args.live.now.table in
     let Stays : JointValue → Type 0 = λ v. f c.args.joint v ≡ true → HasSupport net (numbered c.args.judged.now.lists.now) (IsAllowed net c.args.judged.now.turn c.args.judged.now.given.now c.args.judged.now.number) f c.args.side c.args.joint v in
-    below_more (λ (k : ℕ). Stays (get_or (values_of c.args.judged.now.lists.now c.args.joint) k Jam)) c.loop-place.place c.loop-place.invariant
-    (subst Stays c.value_at-value.ensures (c.in_ok-may_go.ensures.stays c.if-branch.false))
+    let here : Stays (get_or (values_of c.args.judged.now.lists.now c.args.joint) c.loop-place.place Jam) = subst Stays c.value_at-value.ensures (c.in_ok-may_go.ensures.stays c.if-branch.false) in
+    λ k le lt. elim (eq_cases k c.loop-place.place) [
+      | inl e ↦ subst (λ (n : ℕ). Stays (get_or (values_of c.args.judged.now.lists.now c.args.joint) n Jam)) (sym e) here
+      | inr ne ↦ c.loop-place.invariant k le (omega (arith, lt, ne))
+    ]
 
 pub returns : goal.returns
 returns g c =
     let net : Net = net_of g.P.Primitive.behaviour c.args.judged.now.circuit.now in
     let f : Family = family_of c.args.live.now.table in
-    of_each (f c.args.joint) (values_of c.args.judged.now.lists.now c.args.joint) (λ v. HasSupport net (numbered c.args.judged.now.lists.now) (IsAllowed net c.args.judged.now.turn c.args.judged.now.given.now c.args.judged.now.number) f c.args.side c.args.joint v)
-    (λ k lt on. c.loop-place.invariant k (omega (arith, lt, c.loop-place-test.false, c.value_count-place-end.ensures)) on)
+    λ start. of_each (f c.args.joint) (values_of c.args.judged.now.lists.now c.args.joint) (λ v. HasSupport net (numbered c.args.judged.now.lists.now) (IsAllowed net c.args.judged.now.turn c.args.judged.now.given.now c.args.judged.now.number) f c.args.side c.args.joint v)
+    (λ k lt on. c.loop-place.invariant k (omega (arith, start)) (omega (arith, lt, c.loop-place-test.false, c.value_count-place-end.ensures)) on)

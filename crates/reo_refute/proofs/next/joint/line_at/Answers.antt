@@ -1,4 +1,4 @@
-use Rattle.std.proofs.Common.{◌≡◌, inl, inr, true, false, ap, sym, ◌∙◌, subst}
+use Rattle.std.proofs.Common.{◌≡◌, refl, inl, inr, true, false, ap, sym, ◌∙◌, subst}
 use Rattle.reo_values.proofs.Sequences.{nil_of}
 use Rattle.reo_net_base.specs.declared.joint.Joint.{Joint}
 use Rattle.reo_net_base.specs.Net.{Net, net_of, side_at}
@@ -43,7 +43,7 @@ returns-in_ok-found-in-None g c =
     let f : Family = family_of c.args.live.now.table in
     let gives : giver_side net c.args.joint ≡ c.side_of-giver.result = ap (λ (x : Joint). side_at net x.giver) (c.joint-ends.ensures no_joint) ∙ sym c.side_of-giver.ensures.number in
     let takes : taker_side net c.args.joint ≡ c.side_of-taker.result = ap (λ (x : Joint). side_at net x.taker) (c.joint-ends.ensures no_joint) ∙ sym c.side_of-taker.ensures.number in
-    let at_giver : AreSupported net c.args.judged.now.lists.now (IsAllowed net c.args.judged.now.turn c.args.judged.now.given.now c.args.judged.now.number) f c.args.joint c.side_of-giver.result = rw c.in-None.is at c.in_ok-line.ensures in
-    matched_more (AreSupported net c.args.judged.now.lists.now (IsAllowed net c.args.judged.now.turn c.args.judged.now.given.now c.args.judged.now.number) f c.args.joint c.side_of-taker.result) (IsKept net c.args.judged.now.lists.now (IsAllowed net c.args.judged.now.turn c.args.judged.now.given.now c.args.judged.now.number) f c.args.joint)
+    let at_giver : AreSupported net c.args.judged.now.lists.now (IsAllowed net c.args.judged.now.turn c.args.judged.now.given.now c.args.judged.now.number) f c.args.joint c.side_of-giver.result = (rw c.in-None.is at c.in_ok-line.ensures) refl in
+    matched_more (0 ≡ 0 → AreSupported net c.args.judged.now.lists.now (IsAllowed net c.args.judged.now.turn c.args.judged.now.given.now c.args.judged.now.number) f c.args.joint c.side_of-taker.result) (IsKept net c.args.judged.now.lists.now (IsAllowed net c.args.judged.now.turn c.args.judged.now.given.now c.args.judged.now.number) f c.args.joint)
     (LeadsOn net c.args.judged.now.lists.now (IsAllowed net c.args.judged.now.turn c.args.judged.now.given.now c.args.judged.now.number) f) c.in_ok-found-in-None.found c.in_ok-found-in-None.ensures
-    (kept net c.args.judged.now.lists.now (IsAllowed net c.args.judged.now.turn c.args.judged.now.given.now c.args.judged.now.number) f c.args.joint c.side_of-giver.result c.side_of-taker.result gives takes (c.has_live.ensures.0 c.if-not-has_live.false) at_giver)
+    (λ h. kept net c.args.judged.now.lists.now (IsAllowed net c.args.judged.now.turn c.args.judged.now.given.now c.args.judged.now.number) f c.args.joint c.side_of-giver.result c.side_of-taker.result gives takes (c.has_live.ensures.0 c.if-not-has_live.false) at_giver (h refl))

@@ -12,6 +12,7 @@ loop-number-init g c =
     let net : Net = net_of g.P.Primitive.behaviour c.args.round.now.circuit.now in
     record {
       agreeing = c.in_ok-allowed.ensures c.args.round.now.turn c.args.round.now.given.now;
+      closed = c.in_ok-scratch.ensures;
       made = none_made net c.args.round.now.turn c.args.round.now.given.now c.args.round.now.lists.now 0 c.args.out.now;
     }
 
@@ -20,6 +21,7 @@ loop-number-preserved g c =
     let net : Net = net_of g.P.Primitive.behaviour c.args.round.now.circuit.now in
     record {
       agreeing = c.in_ok-put_place.ensures.agreeing;
+      closed = c.in_ok-put_place.ensures.closed;
       made = both_made net c.args.round.now.turn c.args.round.now.given.now c.args.round.now.lists.now 0 c.loop-number.number (c.loop-number.number + 1) c.args.out.now c.loop-number.out c.put_place.new.out c.loop-number.invariant.made c.in_ok-put_place.ensures.made;
     }
 

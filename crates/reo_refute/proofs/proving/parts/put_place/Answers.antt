@@ -10,7 +10,7 @@ returns-clause-made g c =
     let net : Net = net_of g.P.Primitive.behaviour c.args.round.now.circuit.now in
     let Made : List ℕ → Type 0 = λ out. ArePartsMade net c.args.round.now.turn c.args.round.now.given.now c.args.round.now.lists.now c.args.number (c.args.number + 1) c.args.out.now out in
     elim c.if-branch.branch [
-      | then-branch+in_ok-put_live w ↦ subst Made (sym w.out-is) w.in_ok-put_live.ensures
+      | then-branch+in_ok-put_live w ↦ subst Made (sym w.out-is) w.in_ok-put_live.ensures.made
       | else-branch w ↦
           subst Made (sym w.out-is)
           (dead_made net c.args.round.now.turn c.args.round.now.given.now c.args.round.now.lists.now c.args.number
