@@ -5,8 +5,7 @@ use Rattle.reo_net_base.specs.declared.form.Form.{Form}
 use Rattle.reo_net_base.specs.declared.form.Form.TheVariants.{Single}
 use Rattle.reo_net_base.specs.declared.table.Table.TheVariants.{Ready}
 use Rattle.reo_net_base.specs.declared.mark.Mark.{Mark}
-use Rattle.reo_values.specs.declared.value.Value.{Value}
-use Rattle.reo_net_base.specs.Behaviour.{Behaviour, IsEndOf}
+use Rattle.reo_net_base.specs.Behaviour.{IsEndOf}
 use Rattle.reo_net_base.specs.Forms.{HasForm}
 use Rattle.reo_net_base.specs.Net.{Net, mark_at, behaviour_at, end_of, first_side}
 use Rattle.reo_net_base.specs.Sides.{side_count}

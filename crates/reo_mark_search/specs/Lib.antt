@@ -1,5 +1,6 @@
 pub mod Fitting
 pub mod MarkFinding
 pub mod Places
+pub mod Searched
 pub mod Spots
 pub mod Walking

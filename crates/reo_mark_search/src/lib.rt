@@ -10,6 +10,7 @@ mod found;
 mod narrowing;
 mod noting;
 mod search;
+mod searched;
 mod seats;
 mod spots;
 mod taking;

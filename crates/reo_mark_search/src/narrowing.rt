@@ -2,100 +2,62 @@
 ghost use Rattle.std.specs.Prelude.{◌≡◌, ◌*◌, ◌<◌, length, true, false};
 ghost use Rattle.reo_net_base.specs.Net.{net_of};
 ghost use Rattle.reo_net_base.specs.Sides.{side_count};
-ghost use Rattle.reo_net_laws.specs.Knots.{AreKnots, in_knot, knot_count};
-ghost use Rattle.reo_mark_search.specs.Fitting.{AreNoted, AreReduced, HasNoRival};
-ghost use Rattle.reo_mark_search.specs.Spots.{AreSpots};
+ghost use Rattle.reo_mark_search.specs.Fitting.{AreReduced, HasNoRival};
+ghost use Rattle.reo_mark_search.specs.Searched.{IsSearched, in_part};
 
+use crate::searched::Searched;
 use crate::seats::seat_at;
-use reo_knots::Knots;
 use reo_mark_sets::MarkSets;
-use reo_net_base::{Form, Primitive};
-use reo_net_circuit::Circuit;
-use reo_values::List;
+use reo_net_base::Primitive;
 
 /// Narrows at a side. The answer is whether some row of it works.
-fn narrow_at<P: Primitive>(
-    circuit: &Circuit<P>,
-    knots: &Knots,
-    spots: &List<List<usize>>,
-    forms: &List<Form>,
-    sets: &mut MarkSets,
-    part: usize,
-    side: usize,
-) -> bool
-    requires knots { AreKnots (net_of P.behaviour circuit.now) knots.now }
-    requires part { part < knot_count knots.now }
-    requires spots { AreSpots (net_of P.behaviour circuit.now) spots.now }
-    requires forms { AreNoted (net_of P.behaviour circuit.now)
-        (in_knot knots.now.numbers part) forms.now }
-    requires sets { length sets.old ≡ 2 * length circuit.now.joints }
-    requires side { side < side_count (net_of P.behaviour circuit.now) }
-    requires here { in_knot knots.now.numbers part side ≡ true }
-    ensures reduced { AreReduced (net_of P.behaviour circuit.now) (in_knot knots.now.numbers part)
-        sets.old sets.new }
-    ensures none { result ≡ false → HasNoRival (net_of P.behaviour circuit.now)
-        (in_knot knots.now.numbers part) sets.old }
+fn narrow_at<P: Primitive>(searched: &Searched<'_, P>, sets: &mut MarkSets, side: usize) -> bool
+    requires searched { IsSearched (net_of P.behaviour searched.now.circuit.now) searched.now }
+    requires sets { length sets.old ≡ 2 * length searched.now.circuit.now.joints }
+    requires side { side < side_count (net_of P.behaviour searched.now.circuit.now) }
+    requires here { in_part searched.now side ≡ true }
+    ensures reduced { AreReduced (net_of P.behaviour searched.now.circuit.now)
+        (in_part searched.now) sets.old sets.new }
+    ensures none { result ≡ false → HasNoRival (net_of P.behaviour searched.now.circuit.now)
+        (in_part searched.now) sets.old }
 {
-    circuit.known();
-    let seat = seat_at(circuit, knots, spots, forms, part, side);
+    searched.circuit.known();
+    let seat = seat_at(searched, side);
     sets.narrow(seat.form, seat.places)
 }
 
 /// Narrows at a side if it is one of the part. The answer is whether some row of it works.
-fn turn_to<P: Primitive>(
-    circuit: &Circuit<P>,
-    knots: &Knots,
-    spots: &List<List<usize>>,
-    forms: &List<Form>,
-    sets: &mut MarkSets,
-    part: usize,
-    side: usize,
-) -> bool
-    requires knots { AreKnots (net_of P.behaviour circuit.now) knots.now }
-    requires part { part < knot_count knots.now }
-    requires spots { AreSpots (net_of P.behaviour circuit.now) spots.now }
-    requires forms { AreNoted (net_of P.behaviour circuit.now)
-        (in_knot knots.now.numbers part) forms.now }
-    requires sets { length sets.old ≡ 2 * length circuit.now.joints }
-    ensures reduced { AreReduced (net_of P.behaviour circuit.now) (in_knot knots.now.numbers part)
-        sets.old sets.new }
-    ensures none { result ≡ false → HasNoRival (net_of P.behaviour circuit.now)
-        (in_knot knots.now.numbers part) sets.old }
+fn turn_to<P: Primitive>(searched: &Searched<'_, P>, sets: &mut MarkSets, side: usize) -> bool
+    requires searched { IsSearched (net_of P.behaviour searched.now.circuit.now) searched.now }
+    requires sets { length sets.old ≡ 2 * length searched.now.circuit.now.joints }
+    ensures reduced { AreReduced (net_of P.behaviour searched.now.circuit.now)
+        (in_part searched.now) sets.old sets.new }
+    ensures none { result ≡ false → HasNoRival (net_of P.behaviour searched.now.circuit.now)
+        (in_part searched.now) sets.old }
 {
-    if side >= circuit.sides() {
+    if side >= searched.circuit.sides() {
         return true;
     }
-    if knots.knot_of(side) != part {
+    if searched.knots.knot_of(side) != searched.part {
         return true;
     }
-    narrow_at(circuit, knots, spots, forms, sets, part, side)
+    narrow_at(searched, sets, side)
 }
 
 /// Narrows at the sides that wait, until none waits any more. The answer is whether some row works
 /// at each of them.
-pub(crate) fn narrow_waiting<P: Primitive>(
-    circuit: &Circuit<P>,
-    knots: &Knots,
-    spots: &List<List<usize>>,
-    forms: &List<Form>,
-    sets: &mut MarkSets,
-    part: usize,
-) -> bool
-    requires knots { AreKnots (net_of P.behaviour circuit.now) knots.now }
-    requires part { part < knot_count knots.now }
-    requires spots { AreSpots (net_of P.behaviour circuit.now) spots.now }
-    requires forms { AreNoted (net_of P.behaviour circuit.now)
-        (in_knot knots.now.numbers part) forms.now }
-    requires sets { length sets.old ≡ 2 * length circuit.now.joints }
-    ensures reduced { AreReduced (net_of P.behaviour circuit.now) (in_knot knots.now.numbers part)
-        sets.old sets.new }
-    ensures none { result ≡ false → HasNoRival (net_of P.behaviour circuit.now)
-        (in_knot knots.now.numbers part) sets.old }
+pub(crate) fn narrow_waiting<P: Primitive>(searched: &Searched<'_, P>, sets: &mut MarkSets) -> bool
+    requires searched { IsSearched (net_of P.behaviour searched.now.circuit.now) searched.now }
+    requires sets { length sets.old ≡ 2 * length searched.now.circuit.now.joints }
+    ensures reduced { AreReduced (net_of P.behaviour searched.now.circuit.now)
+        (in_part searched.now) sets.old sets.new }
+    ensures none { result ≡ false → HasNoRival (net_of P.behaviour searched.now.circuit.now)
+        (in_part searched.now) sets.old }
 {
     for _ in 0..u64::MAX {
         match sets.next() {
             None => return true,
-            Some(side) => if !turn_to(circuit, knots, spots, forms, sets, part, side) {
+            Some(side) => if !turn_to(searched, sets, side) {
                 sets.calm();
                 return false;
             },

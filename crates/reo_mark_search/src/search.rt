@@ -11,6 +11,7 @@ use crate::fixing::fixed_all;
 use crate::found::MarkFinding;
 use crate::narrowing::narrow_waiting;
 use crate::noting::note_all;
+use crate::searched::Searched;
 use crate::spots::{keepers_of, spots_of};
 use crate::walking::{class_all, jam_all, lead_all, meets_all, row_all};
 use reo_knots::Knots;
@@ -68,23 +69,31 @@ fn search_part<P: Primitive>(
         sets.calm();
         return MarkFinding::Unknown;
     }
-    if !narrow_waiting(circuit, knots, spots, forms, sets, part) {
+    let searched = Searched {
+        circuit,
+        knots,
+        part,
+        turn,
+        spots,
+        forms,
+    };
+    if !narrow_waiting(&searched, sets) {
         jam_all(circuit, knots, part, rows);
         return MarkFinding::Jam;
     }
-    if !lead_all(circuit, knots, spots, forms, sets, part, turn) {
+    if !lead_all(&searched, sets) {
         return MarkFinding::Unknown;
     }
-    if fixed_all(circuit, knots, spots, forms, sets, part, rows) {
+    if fixed_all(&searched, sets, rows) {
         return MarkFinding::Rows;
     }
-    if !class_all(circuit, knots, spots, forms, sets, part, turn) {
+    if !class_all(&searched, sets) {
         return MarkFinding::Unknown;
     }
-    if !row_all(circuit, knots, spots, forms, sets, part, rows) {
+    if !row_all(&searched, sets, rows) {
         return MarkFinding::Unknown;
     }
-    if !meets_all(circuit, knots, spots, forms, sets, part) {
+    if !meets_all(&searched, sets) {
         return MarkFinding::Unknown;
     }
     MarkFinding::Rows

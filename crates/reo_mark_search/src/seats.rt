@@ -2,15 +2,12 @@
 ghost use Rattle.std.specs.Prelude.{◌≡◌, ◌<◌, true};
 ghost use Rattle.reo_net_base.specs.Net.{net_of};
 ghost use Rattle.reo_net_base.specs.Sides.{side_count};
-ghost use Rattle.reo_net_laws.specs.Knots.{in_knot};
-ghost use Rattle.reo_mark_search.specs.Fitting.{AreNoted};
-ghost use Rattle.reo_mark_search.specs.Spots.{AreSpots, IsSeat};
+ghost use Rattle.reo_mark_search.specs.Searched.{IsSearched, in_part};
+ghost use Rattle.reo_mark_search.specs.Spots.{IsSeat};
 
+use crate::searched::Searched;
 use crate::spots::places_at;
-use reo_knots::Knots;
 use reo_net_base::{Form, Primitive};
-use reo_net_circuit::Circuit;
-use reo_values::List;
 
 /// The form of a side, and the places of its ends.
 #[derive(Drop)]
@@ -20,27 +17,17 @@ pub(crate) struct Seat<'a> {
 }
 
 /// The seat of a side of a part.
-pub(crate) fn seat_at<'a, P: Primitive>(
-    circuit: &Circuit<P>,
-    knots: &Knots,
-    spots: &'a List<List<usize>>,
-    forms: &List<Form>,
-    part: usize,
-    side: usize,
-) -> Seat<'a>
-    requires spots { AreSpots (net_of P.behaviour circuit.now) spots.now }
-    requires forms { AreNoted (net_of P.behaviour circuit.now)
-        (in_knot knots.now.numbers part) forms.now }
-    requires side { side < side_count (net_of P.behaviour circuit.now) }
-    requires here { in_knot knots.now.numbers part side ≡ true }
-    ensures { IsSeat (net_of P.behaviour circuit.now) spots.now side
+pub(crate) fn seat_at<'a, P: Primitive>(searched: &Searched<'a, P>, side: usize) -> Seat<'a>
+    requires searched { IsSearched (net_of P.behaviour searched.now.circuit.now) searched.now }
+    requires side { side < side_count (net_of P.behaviour searched.now.circuit.now) }
+    requires here { in_part searched.now side ≡ true }
+    ensures { IsSeat (net_of P.behaviour searched.now.circuit.now) searched.now.spots.now side
         result.form result.places.now }
 {
-    let _ = knots;
-    let owner = circuit.owner(side);
-    let form = *forms.at(side);
+    let owner = searched.circuit.owner(side);
+    let form = *searched.forms.at(side);
     Seat {
         form,
-        places: places_at(circuit, spots, owner, form),
+        places: places_at(searched.circuit, searched.spots, owner, form),
     }
 }

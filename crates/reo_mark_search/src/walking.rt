@@ -1,54 +1,46 @@
 //! Walking along the places of a part.
-ghost use Rattle.std.specs.Prelude.{◌≡◌, ◌*◌, ◌<◌, ◌-◌, ℕ, List as Listed, [], IsTrue, length, slice_index, slice_index_or, true, false};
+ghost use Rattle.std.specs.Prelude.{◌≡◌, ◌*◌, ◌<◌, ◌-◌, ℕ, IsTrue, length, slice_index, true};
 ghost use Rattle.reo_net_base.specs.declared.mark.Mark.{Mark as EndMark};
 ghost use Rattle.reo_net_base.specs.Net.{net_of};
 ghost use Rattle.reo_net_base.specs.Sides.{side_count};
 ghost use Rattle.reo_net_laws.specs.Knots.{AreKnots, in_knot, knot_count};
 ghost use Rattle.reo_net_laws.specs.JamRows.{jam_rows};
 ghost use Rattle.reo_mark_sets.specs.PlainMarks.{has, open_at, partner};
-ghost use Rattle.reo_mark_search.specs.Fitting.{AreNoted, AreMet, ArePinned};
+ghost use Rattle.reo_mark_search.specs.Fitting.{AreMet, ArePinned};
 ghost use Rattle.reo_mark_search.specs.MarkFinding.{AreRowsElsewhere};
 ghost use Rattle.reo_mark_search.specs.Places.{lead_places, class_places, row_places};
-ghost use Rattle.reo_mark_search.specs.Spots.{AreSpots};
+ghost use Rattle.reo_mark_search.specs.Searched.{IsSearched, in_part, part_sides};
 ghost use Rattle.reo_mark_search.specs.Walking.{GoesOn};
 
+use crate::searched::Searched;
 use crate::seats::seat_at;
 use crate::taking::{class_at, row_at};
 use reo_knots::Knots;
 use reo_mark_sets::MarkSets;
-use reo_net_base::{Form, Primitive};
+use reo_net_base::Primitive;
 use reo_net_circuit::Circuit;
 use reo_values::List;
 
 /// Takes the least class at each side of a part that leads. The answer is whether some row is left
 /// at each side. Where it is not, not all were gone to.
-pub(crate) fn lead_all<P: Primitive>(
-    circuit: &Circuit<P>,
-    knots: &Knots,
-    spots: &List<List<usize>>,
-    forms: &List<Form>,
-    sets: &mut MarkSets,
-    part: usize,
-    turn: u64,
-) -> bool
-    requires knots { AreKnots (net_of P.behaviour circuit.now) knots.now }
-    requires part { part < knot_count knots.now }
-    requires spots { AreSpots (net_of P.behaviour circuit.now) spots.now }
-    requires forms { AreNoted (net_of P.behaviour circuit.now)
-        (in_knot knots.now.numbers part) forms.now }
-    requires sets { length sets.old ≡ 2 * length circuit.now.joints }
+pub(crate) fn lead_all<P: Primitive>(searched: &Searched<'_, P>, sets: &mut MarkSets) -> bool
+    requires searched { IsSearched (net_of P.behaviour searched.now.circuit.now) searched.now }
+    requires sets { length sets.old ≡ 2 * length searched.now.circuit.now.joints }
     ensures one_each { length sets.new ≡ length sets.old }
-    ensures goes_on { let net = net_of P.behaviour circuit.now in
-        result ≡ true → GoesOn net (in_knot knots.now.numbers part)
-        (lead_places net turn (slice_index_or knots.now.sides part [])) sets.old sets.new }
+    ensures goes_on { let net = net_of P.behaviour searched.now.circuit.now in
+        result ≡ true → GoesOn net (in_part searched.now)
+        (lead_places net searched.now.turn (part_sides searched.now)) sets.old sets.new }
 {
-    circuit.known();
-    let sides = knots.sides(part);
+    searched.circuit.known();
+    let sides = searched.knots.sides(searched.part);
     for index in 0..sides.len() {
         let side = sides[index];
-        let owner = circuit.owner(side);
-        if circuit.primitive(owner.primitive).leads(owner.side)
-            && !class_at(circuit, knots, spots, forms, sets, part, turn, side)
+        let owner = searched.circuit.owner(side);
+        if searched
+            .circuit
+            .primitive(owner.primitive)
+            .leads(owner.side)
+            && !class_at(searched, sets, side)
         {
             return false;
         }
@@ -58,29 +50,17 @@ pub(crate) fn lead_all<P: Primitive>(
 
 /// Takes the least class at each side of a part. The answer is whether some row is left at each
 /// side. Where it is not, not all were gone to.
-pub(crate) fn class_all<P: Primitive>(
-    circuit: &Circuit<P>,
-    knots: &Knots,
-    spots: &List<List<usize>>,
-    forms: &List<Form>,
-    sets: &mut MarkSets,
-    part: usize,
-    turn: u64,
-) -> bool
-    requires knots { AreKnots (net_of P.behaviour circuit.now) knots.now }
-    requires part { part < knot_count knots.now }
-    requires spots { AreSpots (net_of P.behaviour circuit.now) spots.now }
-    requires forms { AreNoted (net_of P.behaviour circuit.now)
-        (in_knot knots.now.numbers part) forms.now }
-    requires sets { length sets.old ≡ 2 * length circuit.now.joints }
+pub(crate) fn class_all<P: Primitive>(searched: &Searched<'_, P>, sets: &mut MarkSets) -> bool
+    requires searched { IsSearched (net_of P.behaviour searched.now.circuit.now) searched.now }
+    requires sets { length sets.old ≡ 2 * length searched.now.circuit.now.joints }
     ensures one_each { length sets.new ≡ length sets.old }
-    ensures goes_on { let net = net_of P.behaviour circuit.now in
-        result ≡ true → GoesOn net (in_knot knots.now.numbers part)
-        (class_places net turn (slice_index_or knots.now.sides part [])) sets.old sets.new }
+    ensures goes_on { let net = net_of P.behaviour searched.now.circuit.now in
+        result ≡ true → GoesOn net (in_part searched.now)
+        (class_places net searched.now.turn (part_sides searched.now)) sets.old sets.new }
 {
-    let sides = knots.sides(part);
+    let sides = searched.knots.sides(searched.part);
     for index in 0..sides.len() {
-        if !class_at(circuit, knots, spots, forms, sets, part, turn, sides[index]) {
+        if !class_at(searched, sets, sides[index]) {
             return false;
         }
     }
@@ -90,32 +70,25 @@ pub(crate) fn class_all<P: Primitive>(
 /// Takes the first row at each side of a part, and notes it. The answer is whether some row is left
 /// at each side. Where it is not, not all were gone to.
 pub(crate) fn row_all<P: Primitive>(
-    circuit: &Circuit<P>,
-    knots: &Knots,
-    spots: &List<List<usize>>,
-    forms: &List<Form>,
+    searched: &Searched<'_, P>,
     sets: &mut MarkSets,
-    part: usize,
     rows: &mut List<u32>,
 ) -> bool
-    requires knots { AreKnots (net_of P.behaviour circuit.now) knots.now }
-    requires part { part < knot_count knots.now }
-    requires spots { AreSpots (net_of P.behaviour circuit.now) spots.now }
-    requires forms { AreNoted (net_of P.behaviour circuit.now)
-        (in_knot knots.now.numbers part) forms.now }
-    requires sets { length sets.old ≡ 2 * length circuit.now.joints }
-    requires rows { length rows.old ≡ side_count (net_of P.behaviour circuit.now) }
+    requires searched { IsSearched (net_of P.behaviour searched.now.circuit.now) searched.now }
+    requires sets { length sets.old ≡ 2 * length searched.now.circuit.now.joints }
+    requires rows { length rows.old ≡ side_count (net_of P.behaviour searched.now.circuit.now) }
     ensures one_each { length sets.new ≡ length sets.old }
-    ensures goes_on { let net = net_of P.behaviour circuit.now in
-        result ≡ true → GoesOn net (in_knot knots.now.numbers part)
-        (row_places (slice_index_or knots.now.sides part [])) sets.old sets.new }
-    ensures pinned { let net = net_of P.behaviour circuit.now in
-        let sides = slice_index_or knots.now.sides part [] in
-        result ≡ true → ArePinned net spots.now sides (length sides) sets.new rows.new }
-    ensures elsewhere { AreRowsElsewhere (in_knot knots.now.numbers part) rows.old rows.new }
+    ensures goes_on { let net = net_of P.behaviour searched.now.circuit.now in
+        result ≡ true → GoesOn net (in_part searched.now)
+        (row_places (part_sides searched.now)) sets.old sets.new }
+    ensures pinned { let net = net_of P.behaviour searched.now.circuit.now in
+        let sides = part_sides searched.now in
+        result ≡ true
+        → ArePinned net searched.now.spots.now sides (length sides) sets.new rows.new }
+    ensures elsewhere { AreRowsElsewhere (in_part searched.now) rows.old rows.new }
 {
-    for index in 0..knots.sides(part).len() {
-        if !row_at(circuit, knots, spots, forms, sets, part, index, rows) {
+    for index in 0..searched.knots.sides(searched.part).len() {
+        if !row_at(searched, sets, index, rows) {
             return false;
         }
     }
@@ -140,28 +113,18 @@ fn meets_at(sets: &MarkSets, places: &[usize]) -> bool
 }
 
 /// Whether some mark at each end of a part meets one at the other end of its joint.
-pub(crate) fn meets_all<P: Primitive>(
-    circuit: &Circuit<P>,
-    knots: &Knots,
-    spots: &List<List<usize>>,
-    forms: &List<Form>,
-    sets: &MarkSets,
-    part: usize,
-) -> bool
-    requires knots { AreKnots (net_of P.behaviour circuit.now) knots.now }
-    requires part { part < knot_count knots.now }
-    requires spots { AreSpots (net_of P.behaviour circuit.now) spots.now }
-    requires forms { AreNoted (net_of P.behaviour circuit.now)
-        (in_knot knots.now.numbers part) forms.now }
-    requires sets { length sets.now ≡ 2 * length circuit.now.joints }
-    ensures { let sides = slice_index_or knots.now.sides part [] in
+pub(crate) fn meets_all<P: Primitive>(searched: &Searched<'_, P>, sets: &MarkSets) -> bool
+    requires searched { IsSearched (net_of P.behaviour searched.now.circuit.now) searched.now }
+    requires sets { length sets.now ≡ 2 * length searched.now.circuit.now.joints }
+    ensures { let sides = part_sides searched.now in
         IsTrue result
-        → AreMet (net_of P.behaviour circuit.now) spots.now sides (length sides) sets.now }
+        → AreMet (net_of P.behaviour searched.now.circuit.now) searched.now.spots.now sides
+        (length sides) sets.now }
 {
-    circuit.known();
-    let sides = knots.sides(part);
+    searched.circuit.known();
+    let sides = searched.knots.sides(searched.part);
     for index in 0..sides.len() {
-        let seat = seat_at(circuit, knots, spots, forms, part, sides[index]);
+        let seat = seat_at(searched, sides[index]);
         if !meets_at(sets, seat.places) {
             return false;
         }

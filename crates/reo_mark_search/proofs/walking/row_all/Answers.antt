@@ -1,14 +1,14 @@
-use Rattle.std.proofs.Common.{◌∙◌, ◌<◌, ℕ, List, [], length, slice_index_or, ap, arith}
+use Rattle.std.proofs.Common.{◌∙◌, ◌<◌, ℕ, List, length, ap, arith}
 use Rattle.reo_net_base.specs.Net.{Net, net_of}
-use Rattle.reo_net_laws.specs.Knots.{in_knot}
+use Rattle.reo_mark_search.specs.Searched.{in_part, part_sides}
 use Rattle.reo_mark_search.proofs.Steps.{row_next}
 use Rattle.reo_mark_search.proofs.walking.row_all.Goals as goal
 
 pub loop-index-preserved : goal.loop-index-preserved
 loop-index-preserved g c =
-    let net : Net = net_of g.P.Primitive.behaviour c.args.circuit.now in
-    let inside = in_knot c.args.knots.now.numbers c.args.part in
-    let sides : List ℕ = slice_index_or c.args.knots.now.sides c.args.part [] in
+    let net : Net = net_of g.P.Primitive.behaviour c.args.searched.now.circuit.now in
+    let inside = in_part c.args.searched.now in
+    let sides : List ℕ = part_sides c.args.searched.now in
     let n : ℕ = c.loop-index.index in
     let inv = c.loop-index.invariant in
     let count = ap (λ (xs : List ℕ). length xs) c.sides-index-end.ensures in
