@@ -1,15 +1,14 @@
 -- What a row gives at an end.
-use Rattle.std.proofs.Common.{◌≡◌, ◌≢◌, inl, inr, ℕ, ◌+◌, ◌<◌, List, [], true, false, None, Some, length, get_or, refl, ap, sym, ◌∙◌, subst, arith}
+use Rattle.std.proofs.Common.{◌≡◌, ◌≢◌, inl, inr, ℕ, ◌+◌, ◌<◌, List, [], true, false, None, Some, length, get_or, ap, sym, ◌∙◌, subst, arith}
 use Rattle.std.specs.Prelude.{Contains, IsSome}
 use Rattle.std.proofs.lemmas.List.{get_or_default}
 use Rattle.std.proofs.lemmas.List.Elements.{Contains-get_or}
 use Rattle.reo_values.specs.declared.value.Value.{Value}
 use Rattle.reo_net_base.specs.declared.mark.Mark.TheVariants.{F}
 use Rattle.reo_net_base.specs.declared.joint.End.{End}
-use Rattle.reo_net_base.specs.Behaviour.{Behaviour, IsEndOf}
-use Rattle.reo_net_base.specs.Lawful.{GivesAt}
+use Rattle.reo_net_base.specs.Behaviour.{Behaviour}
 use Rattle.reo_net_base.specs.Net.{Net, behaviour_at, end_of}
-use Rattle.reo_net_base.specs.Ends.{IsGiver, IsTaker}
+use Rattle.reo_net_base.specs.Ends.{IsGiver}
 use Rattle.reo_net_base.specs.Wired.{IsWired}
 use Rattle.reo_net_laws.specs.Ends.{mark_in, from_in}
 use Rattle.reo_net_circuit.specs.found_ends.Ends.{joint_at, AreEnds}

@@ -1,4 +1,5 @@
 pub mod Added
+pub mod Giving
 pub mod Stays
 pub mod Supplied
 pub mod Width

@@ -13,6 +13,7 @@
 //! items can stand there, and that none stands twice. No list has more than 257 items.
 #![tactic(auto)]
 
+mod giving;
 mod laws;
 mod rows;
 mod stock;

@@ -1,94 +1,89 @@
 //! What rows give at an end.
-ghost use Rattle.std.specs.Prelude.{◌≡◌, ◌<◌, ◌≤◌, ◌+◌, OnOk, Some, None, Contains, length};
+ghost use Rattle.std.specs.Prelude.{◌≡◌, ◌≤◌, OnOk, Some, None, Contains, length};
 ghost use Rattle.reo_values.specs.declared.value.Value.{Value as Item};
-ghost use Rattle.reo_net_base.specs.Behaviour.{IsPlainRow};
-ghost use Rattle.reo_net_base.specs.Ends.{IsGiver};
-ghost use Rattle.reo_net_base.specs.Net.{net_of, behaviour_at, end_of};
+ghost use Rattle.reo_net_base.specs.Net.{net_of, end_of};
 ghost use Rattle.reo_net_laws.specs.Ends.{from_in};
-ghost use Rattle.reo_net_circuit.specs.found_ends.Ends.{AreEnds};
-ghost use Rattle.reo_joint_values.specs.Standing.{FlowsAt, GivesAlone, IsGivenFor};
-ghost use Rattle.reo_reach.specs.Supplied.{HasPlaces};
+ghost use Rattle.reo_joint_values.specs.Standing.{GivesAlone, IsGivenFor};
+ghost use Rattle.reo_reach.specs.Giving.{IsGiving, FlowsThere};
 ghost use Rattle.reo_reach.specs.Added.{AreAdded, IsProduced};
 
+use crate::giving::Giving;
 use crate::stock::{add, is_full};
-use crate::supply::Supply;
 use reo_net_base::{End, Mark, Primitive};
-use reo_net_circuit::{Circuit, Ends};
 use reo_values::{List, NoMemory, Value};
 use std::alloc::Global;
 
 /// Adds the item that a row gives by the state alone.
 fn add_alone<P: Primitive>(
     alloc: Global,
-    circuit: &Circuit<P>,
-    giver: End,
-    row: usize,
+    giving: &Giving<'_, P>,
     items: &mut List<Value>,
 ) -> Result<(), NoMemory>
-    requires giver { IsGiver (net_of P.behaviour circuit.now) giver }
-    requires flows { FlowsAt (net_of P.behaviour circuit.now) giver row }
-    requires alone { from_in (net_of P.behaviour circuit.now) row giver ≡ None }
+    requires giving { IsGiving (net_of P.behaviour giving.now.circuit.now) giving.now }
+    requires flows { FlowsThere (net_of P.behaviour giving.now.circuit.now) giving.now }
+    requires alone { let net = net_of P.behaviour giving.now.circuit.now in
+        from_in net giving.now.row giving.now.giver ≡ None }
     requires room { length items.old ≤ 256 }
-    ensures { let net = net_of P.behaviour circuit.now in
-        OnOk result (AreAdded items.old items.new (GivesAlone net giver row)) }
+    ensures { let net = net_of P.behaviour giving.now.circuit.now in
+        OnOk result (AreAdded items.old items.new
+        (GivesAlone net giving.now.giver giving.now.row)) }
 {
-    circuit.known();
-    let primitive = circuit.primitive(giver.primitive);
-    let side = primitive.side_of(giver.end);
-    let item = primitive.gives(alloc, side, row, giver.end, None)?;
+    giving.circuit.known();
+    let primitive = giving.circuit.primitive(giving.giver.primitive);
+    let side = primitive.side_of(giving.giver.end);
+    let item = primitive.gives(alloc, side, giving.row, giving.giver.end, None)?;
     add(items, item)
 }
 
 /// Adds the item that a row gives for one that it takes, if it lets that one in.
 fn add_for<P: Primitive>(
     alloc: Global,
-    circuit: &Circuit<P>,
-    giver: End,
-    row: usize,
+    giving: &Giving<'_, P>,
     from: usize,
     taken: &Value,
     items: &mut List<Value>,
 ) -> Result<(), NoMemory>
-    requires giver { IsGiver (net_of P.behaviour circuit.now) giver }
-    requires flows { FlowsAt (net_of P.behaviour circuit.now) giver row }
-    requires decides { from_in (net_of P.behaviour circuit.now) row giver ≡ Some from }
-    ensures { let net = net_of P.behaviour circuit.now in
-        let source = end_of giver.primitive from in
-        OnOk result (AreAdded items.old items.new (IsGivenFor net giver row source taken.now)) }
+    requires giving { IsGiving (net_of P.behaviour giving.now.circuit.now) giving.now }
+    requires flows { FlowsThere (net_of P.behaviour giving.now.circuit.now) giving.now }
+    requires decides { let net = net_of P.behaviour giving.now.circuit.now in
+        from_in net giving.now.row giving.now.giver ≡ Some from }
+    ensures { let net = net_of P.behaviour giving.now.circuit.now in
+        let source = end_of giving.now.giver.primitive from in
+        OnOk result (AreAdded items.old items.new
+        (IsGivenFor net giving.now.giver giving.now.row source taken.now)) }
 {
-    circuit.known();
-    let primitive = circuit.primitive(giver.primitive);
-    let side = primitive.side_of(giver.end);
+    giving.circuit.known();
+    let primitive = giving.circuit.primitive(giving.giver.primitive);
+    let side = primitive.side_of(giving.giver.end);
     if is_full(items.as_slice()) {
         return Ok(());
     }
-    if !primitive.passes(side, row, from, taken) {
+    if !primitive.passes(side, giving.row, from, taken) {
         return Ok(());
     }
-    let item = primitive.gives(alloc, side, row, giver.end, Some(taken))?;
+    let item = primitive.gives(alloc, side, giving.row, giving.giver.end, Some(taken))?;
     add(items, item)
 }
 
 /// Adds the items that a row gives for those that it takes.
 fn add_passed<P: Primitive>(
     alloc: Global,
-    circuit: &Circuit<P>,
-    giver: End,
-    row: usize,
+    giving: &Giving<'_, P>,
     from: usize,
     taken: &[Value],
     items: &mut List<Value>,
 ) -> Result<(), NoMemory>
-    requires giver { IsGiver (net_of P.behaviour circuit.now) giver }
-    requires flows { FlowsAt (net_of P.behaviour circuit.now) giver row }
-    requires decides { from_in (net_of P.behaviour circuit.now) row giver ≡ Some from }
-    ensures { let net = net_of P.behaviour circuit.now in
-        let source = end_of giver.primitive from in
-        OnOk result (AreAdded items.old items.new
-        (λ x. (u : Item) × Contains taken.now u × IsGivenFor net giver row source u x)) }
+    requires giving { IsGiving (net_of P.behaviour giving.now.circuit.now) giving.now }
+    requires flows { FlowsThere (net_of P.behaviour giving.now.circuit.now) giving.now }
+    requires decides { let net = net_of P.behaviour giving.now.circuit.now in
+        from_in net giving.now.row giving.now.giver ≡ Some from }
+    ensures { let net = net_of P.behaviour giving.now.circuit.now in
+        let source = end_of giving.now.giver.primitive from in
+        OnOk result (AreAdded items.old items.new (λ x. (u : Item) × Contains taken.now u
+        × IsGivenFor net giving.now.giver giving.now.row source u x)) }
 {
     for index in 0..taken.len() {
-        add_for(alloc, circuit, giver, row, from, &taken[index], items)?;
+        add_for(alloc, giving, from, &taken[index], items)?;
     }
     Ok(())
 }
@@ -96,33 +91,28 @@ fn add_passed<P: Primitive>(
 /// Adds the items that a row gives at an end by which it flows.
 fn add_given<P: Primitive>(
     alloc: Global,
-    circuit: &Circuit<P>,
-    ends: &Ends,
-    supply: &Supply,
-    giver: End,
-    row: usize,
+    giving: &Giving<'_, P>,
     items: &mut List<Value>,
 ) -> Result<(), NoMemory>
-    requires ends { AreEnds (net_of P.behaviour circuit.now) ends.now }
-    requires supply { HasPlaces (net_of P.behaviour circuit.now) supply.now }
-    requires giver { IsGiver (net_of P.behaviour circuit.now) giver }
-    requires flows { FlowsAt (net_of P.behaviour circuit.now) giver row }
+    requires giving { IsGiving (net_of P.behaviour giving.now.circuit.now) giving.now }
+    requires flows { FlowsThere (net_of P.behaviour giving.now.circuit.now) giving.now }
     requires room { length items.old ≤ 256 }
-    ensures { let net = net_of P.behaviour circuit.now in
-        OnOk result (AreAdded items.old items.new (IsProduced net supply.now giver row)) }
+    ensures { let net = net_of P.behaviour giving.now.circuit.now in
+        OnOk result (AreAdded items.old items.new
+        (IsProduced net giving.now.supply.now giving.now.giver giving.now.row)) }
 {
-    circuit.known();
-    let primitive = circuit.primitive(giver.primitive);
-    let side = primitive.side_of(giver.end);
-    match primitive.from(side, row, giver.end) {
-        None => add_alone(alloc, circuit, giver, row, items),
+    giving.circuit.known();
+    let primitive = giving.circuit.primitive(giving.giver.primitive);
+    let side = primitive.side_of(giving.giver.end);
+    match primitive.from(side, giving.row, giving.giver.end) {
+        None => add_alone(alloc, giving, items),
         Some(from) => {
             let source = End {
-                primitive: giver.primitive,
+                primitive: giving.giver.primitive,
                 end: from,
             };
-            let taken = supply.items(ends.joint_at(source));
-            add_passed(alloc, circuit, giver, row, from, taken.as_slice(), items)
+            let taken = giving.supply.items(giving.ends.joint_at(source));
+            add_passed(alloc, giving, from, taken.as_slice(), items)
         }
     }
 }
@@ -130,29 +120,22 @@ fn add_given<P: Primitive>(
 /// Adds the items that a row gives at an end, if it flows there and the list is not full.
 pub(crate) fn add_row<P: Primitive>(
     alloc: Global,
-    circuit: &Circuit<P>,
-    ends: &Ends,
-    supply: &Supply,
-    giver: End,
-    row: usize,
+    giving: &Giving<'_, P>,
     items: &mut List<Value>,
 ) -> Result<(), NoMemory>
-    requires ends { AreEnds (net_of P.behaviour circuit.now) ends.now }
-    requires supply { HasPlaces (net_of P.behaviour circuit.now) supply.now }
-    requires giver { IsGiver (net_of P.behaviour circuit.now) giver }
-    requires row { let net = net_of P.behaviour circuit.now in
-        let b = behaviour_at net.primitives giver.primitive in
-        IsPlainRow b (b.side_of giver.end) row }
-    ensures { let net = net_of P.behaviour circuit.now in
-        OnOk result (AreAdded items.old items.new (IsProduced net supply.now giver row)) }
+    requires giving { IsGiving (net_of P.behaviour giving.now.circuit.now) giving.now }
+    ensures { let net = net_of P.behaviour giving.now.circuit.now in
+        OnOk result (AreAdded items.old items.new
+        (IsProduced net giving.now.supply.now giving.now.giver giving.now.row)) }
 {
-    circuit.known();
-    let primitive = circuit.primitive(giver.primitive);
+    giving.circuit.known();
+    let primitive = giving.circuit.primitive(giving.giver.primitive);
     if is_full(items.as_slice()) {
         return Ok(());
     }
-    match primitive.mark(primitive.side_of(giver.end), row, giver.end) {
-        Mark::F => add_given(alloc, circuit, ends, supply, giver, row, items),
+    let side = primitive.side_of(giving.giver.end);
+    match primitive.mark(side, giving.row, giving.giver.end) {
+        Mark::F => add_given(alloc, giving, items),
         _ => Ok(()),
     }
 }

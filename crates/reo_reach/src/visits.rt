@@ -1,6 +1,5 @@
 //! Going through joints.
 ghost use Rattle.std.specs.Prelude.{◌≡◌, ◌<◌, ◌+◌, ℕ, IfOk, OnOk, OnErr, Contains, length};
-ghost use Rattle.reo_net_base.specs.Behaviour.{IsPlainRow};
 ghost use Rattle.reo_net_base.specs.Ends.{IsGiver};
 ghost use Rattle.reo_net_base.specs.Net.{net_of, behaviour_at};
 ghost use Rattle.reo_net_circuit.specs.found_ends.Ends.{AreEnds};
@@ -8,6 +7,7 @@ ghost use Rattle.reo_reach.specs.Added.{IsMade, IsRenewed};
 ghost use Rattle.reo_joint_values.specs.InOrder.{AreInOrder};
 ghost use Rattle.reo_reach.specs.Supplied.{AreShort, HasPlaces, IsReached, IsSupply, OthersStay};
 
+use crate::giving::Giving;
 use crate::rows::add_row;
 use crate::supply::Supply;
 use reo_net_base::{End, Primitive};
@@ -44,7 +44,14 @@ fn items_of<P: Primitive>(
     let giver = circuit.joint(joint).giver;
     let mut items = List::new(alloc);
     for row in 0..plain_rows(circuit, giver) {
-        add_row(alloc, circuit, ends, supply, giver, row, &mut items)?;
+        let giving = Giving {
+            circuit,
+            ends,
+            supply,
+            giver,
+            row,
+        };
+        add_row(alloc, &giving, &mut items)?;
     }
     Ok(items)
 }

@@ -9,4 +9,4 @@ use Rattle.reo_reach.proofs.rows.add_passed.Given as goal
 -- What is given for the items so far is added.
 abbrev pub invariant-loop-index : goal.invariant-loop-index
 invariant-loop-index g l =
-    AreAdded l.initial.items l.items (Below (λ m x. (d : Value) → IsGivenFor (net_of g.P.Primitive.behaviour l.circuit) l.giver l.row (end_of l.giver.primitive l.from) (get_or l.taken m d) x) l.index)
+    AreAdded l.initial.items l.items (Below (λ m x. (d : Value) → IsGivenFor (net_of g.P.Primitive.behaviour l.giving.circuit.now) l.giving.giver l.giving.row (end_of l.giving.giver.primitive l.from) (get_or l.taken m d) x) l.index)

@@ -21,10 +21,17 @@ loop-row-init g c =
     let net : Net = net_of g.P.Primitive.behaviour c.args.circuit.now in
     subst (λ (xs : List Value). AreAdded [] xs (Below (IsProduced net c.args.supply.now c.joint.result.giver) 0)) (sym c.new-items.ensures) (added_none [] (IsProduced net c.args.supply.now c.joint.result.giver))
 
-pub add_row-requires-clause-giver : goal.add_row-requires-clause-giver
-add_row-requires-clause-giver g c =
+pub add_row-requires : goal.add_row-requires
+add_row-requires g c =
     let net : Net = net_of g.P.Primitive.behaviour c.args.circuit.now in
-    subst (λ (e : End). IsGiver net e) (ap (λ (j : Joint). j.giver) (c.joint.ensures no_joint)) (giver_at net c.known.ensures.wired c.args.joint c.requires.joint)
+    record {
+      giving = record {
+        ends = c.requires.ends;
+        supply = c.requires.supply;
+        giver = subst (λ (e : End). IsGiver net e) (ap (λ (j : Joint). j.giver) (c.joint.ensures no_joint)) (giver_at net c.known.ensures.wired c.args.joint c.requires.joint);
+        row = omega (arith, c.loop-row-test.true, c.plain_rows-row-end.ensures);
+      };
+    }
 
 pub loop-row-preserved : goal.loop-row-preserved
 loop-row-preserved g c =
