@@ -85,8 +85,10 @@ uint32_t reo_withdraw(struct reo_handle *handle, size_t port);
 
 /* Makes the round that comes next, that of the first colouring, and tells in `*round` what it was.
  * The offers of the ports that flowed are gone; the others are pending still. The budget bounds the
- * choices that a search of one part may make; 1,000,000 serves all but odd circuits. REO_WIDE,
- * REO_SPENT, REO_LARGE_BUDGET, REO_NO_ROUND: nothing changes, and `*round` stays. */
+ * weight of a part and not the work: give 10^18 - 1, unless heavier parts are to be refused. An
+ * exclusive router of n ways weighs 5^n; a tree of routers of two ways with buffers between its
+ * stages at most 25. REO_WIDE, REO_SPENT, REO_LARGE_BUDGET, REO_NO_ROUND: nothing changes, and
+ * `*round` stays. */
 uint32_t reo_round(struct reo_handle *handle, uint64_t budget, struct reo_round *round);
 
 /* The port of a move of the round that was made last, in `*port`. Moves count from 0, in the order
