@@ -2,7 +2,9 @@
 //! the circuit, `check CIRCUIT` the parts of the circuit, `print CIRCUIT` the canonical text of the
 //! circuit, `upgrade CIRCUIT` that of version 2, `verify CIRCUIT SCRIPT TRACE` the verdict on the
 //! trace, `bench N` what came of the run of made work, `live CIRCUIT [--budget W]` the answers to
-//! the events of the input.
+//! the events of the input, `list CIRCUIT` the boundary tables of the circuit, `prove CIRCUIT
+//! SCRIPT` the trace with a log behind each round, `verify-proof CIRCUIT SCRIPT PROOF` the verdict
+//! on such a text.
 #![tactic(auto)]
 
 ghost use Rattle.std.specs.Prelude.{◌≡◌, ◌↔◌, IsTrue, MatchResult, Some, false};
