@@ -71,12 +71,10 @@ pub fn thin<P: Primitive>(
         → IsThinnedTo net (names_of basis.now.items.now) side joint
         (length (slice_index_or alive.old joint [])) start alive.new }
 {
-    let marks = used_marks(basis.circuit, basis.boards, basis.items, rows, side, joint);
+    let marks = used_marks(basis, rows, side, joint);
     let mut loss = Loss::none();
     for code in 0..alive.width(joint) {
-        if alive.is_set(joint, code)
-            && !is_used(basis.circuit, basis.items, rows, side, joint, code, marks)
-        {
+        if alive.is_set(joint, code) && !is_used(basis, rows, side, joint, code, marks) {
             alive.clear(joint, code);
             loss = loss.with(code);
         }

@@ -5,8 +5,10 @@ pub mod Stands
 pub mod Flows
 pub mod Groups
 pub mod Sparing
+pub mod Resting
 pub mod Rows
 pub mod Beginning
 pub mod Sifting
 pub mod Usage
 pub mod Seeing
+pub mod Flowing

@@ -3,11 +3,13 @@
 
 mod basis;
 mod flags;
+mod flowing;
 mod flows;
 mod groups;
 mod items;
 mod lists;
 mod marks;
+mod resting;
 mod rows;
 mod seeing;
 mod sifting;

@@ -2,25 +2,24 @@
 ghost use Rattle.std.specs.Prelude.{◌≡◌, ◌≢◌, ◌<◌, ◌≤◌, ◌+◌, ℕ, true, false, None, Some, length, option_copied, slice_index, slice_index_or, []};
 ghost use Rattle.reo_net_base.specs.Net.{net_of, all_sides, row_count};
 ghost use Rattle.reo_net_laws.specs.Ends.{IsRowOf};
-ghost use Rattle.reo_joint_values.specs.Values.{taker_side};
-ghost use Rattle.reo_side_tables.specs.Boards.{IsFlow};
-ghost use Rattle.reo_side_tables.specs.Marks.{side_in, TakesFlow, GivesFlow};
+ghost use Rattle.reo_side_tables.specs.Marks.{side_in};
 ghost use Rattle.reo_rows.specs.RowFlags.{flag, AreAlikeTables};
 ghost use Rattle.reo_rows.specs.Rows.{AreTables, IsSeen};
 ghost use Rattle.reo_rows.specs.Seeing.{HasValuePlaces, AreSeen, IsGivenValue, GivenUse, FollowedUse, FollowUse, TakenUse, TakesUse, AloneUse, RowUse, LiveRowUse};
 ghost use Rattle.reo_rows.specs.Basis.{IsReadyOn};
+ghost use Rattle.reo_rows.specs.Flowing.{IsFlowing, HasPlacesFor, TakesThere, GivesThere, names_in, family_in};
 ghost use Rattle.reo_rows.specs.Sets.{family_of, names_of};
 
 use crate::basis::Basis;
 use crate::flags::RowFlags;
+use crate::flowing::Flowing;
 use crate::flows::flow_works;
 use crate::items::gives_value;
 use crate::marks::FLOWS;
 use crate::rows::Rows;
 use reo_net_base::Primitive;
-use reo_net_circuit::Circuit;
-use reo_side_tables::{Flow, follows, source_of};
-use reo_values::{List, Value};
+use reo_side_tables::{follows, source_of};
+use reo_values::Value;
 
 /// No value with flow of a joint is seen.
 fn unsee(seen: &mut RowFlags, joint: usize)
@@ -48,30 +47,27 @@ fn unsee_all(seen: &mut RowFlags, joints: &[usize])
 
 /// Sees a value of a joint, by its place, if a row gives it there with flow for what it takes.
 fn see_value<P: Primitive>(
-    circuit: &Circuit<P>,
-    items: &[List<Value>],
-    alive: &RowFlags,
+    flowing: &Flowing<'_, P>,
     seen: &mut RowFlags,
-    side: usize,
-    row: usize,
     joint: usize,
     taken: Option<&Value>,
     code: usize,
 )
-    requires items { length items.now ≡ length circuit.now.joints }
-    requires alive { HasValuePlaces (net_of P.behaviour circuit.now) items.now alive.now }
-    requires seen { HasValuePlaces (net_of P.behaviour circuit.now) items.now seen.old }
-    requires row { IsRowOf (net_of P.behaviour circuit.now) side row }
-    requires gives { GivesFlow (net_of P.behaviour circuit.now) side row joint }
+    requires flowing { IsFlowing (net_of P.behaviour flowing.now.basis.now.circuit.now)
+        flowing.now }
+    requires seen { let net = net_of P.behaviour flowing.now.basis.now.circuit.now in
+        HasPlacesFor net flowing.now seen.old }
+    requires gives { let net = net_of P.behaviour flowing.now.basis.now.circuit.now in
+        GivesThere net flowing.now joint }
     requires flows { 4 ≤ code }
-    requires code { code < length (slice_index_or items.now joint []) + 4 }
-    ensures { let net = net_of P.behaviour circuit.now in
-        AreSeen (IsGivenValue net (names_of items.now) (family_of alive.now) row joint
-        (option_copied taken.entry) code) seen.old seen.new }
+    requires code { code < length (slice_index_or flowing.now.basis.now.items.now joint []) + 4 }
+    ensures { let net = net_of P.behaviour flowing.now.basis.now.circuit.now in
+        AreSeen (IsGivenValue net (names_in flowing.now) (family_in flowing.now) flowing.now.row
+        joint (option_copied taken.entry) code) seen.old seen.new }
 {
-    if alive.is_set(joint, code)
+    if flowing.alive.is_set(joint, code)
         && !seen.is_set(joint, code)
-        && gives_value(circuit, items, side, row, joint, taken, code)
+        && gives_value(flowing, joint, taken, code)
     {
         seen.put(joint, code, true);
     }
@@ -79,204 +75,160 @@ fn see_value<P: Primitive>(
 
 /// Sees the values of a joint that a row gives there with flow for what it takes.
 fn see_given<P: Primitive>(
-    circuit: &Circuit<P>,
-    items: &[List<Value>],
-    alive: &RowFlags,
+    flowing: &Flowing<'_, P>,
     seen: &mut RowFlags,
-    side: usize,
-    row: usize,
     joint: usize,
     taken: Option<&Value>,
 )
-    requires items { length items.now ≡ length circuit.now.joints }
-    requires alive { HasValuePlaces (net_of P.behaviour circuit.now) items.now alive.now }
-    requires seen { HasValuePlaces (net_of P.behaviour circuit.now) items.now seen.old }
-    requires row { IsRowOf (net_of P.behaviour circuit.now) side row }
-    requires gives { GivesFlow (net_of P.behaviour circuit.now) side row joint }
-    ensures { let net = net_of P.behaviour circuit.now in
-        AreSeen (GivenUse net (names_of items.now) (family_of alive.now) row joint
+    requires flowing { IsFlowing (net_of P.behaviour flowing.now.basis.now.circuit.now)
+        flowing.now }
+    requires seen { let net = net_of P.behaviour flowing.now.basis.now.circuit.now in
+        HasPlacesFor net flowing.now seen.old }
+    requires gives { let net = net_of P.behaviour flowing.now.basis.now.circuit.now in
+        GivesThere net flowing.now joint }
+    ensures { let net = net_of P.behaviour flowing.now.basis.now.circuit.now in
+        AreSeen (GivenUse net (names_in flowing.now) (family_in flowing.now) flowing.now.row joint
         (option_copied taken.entry)) seen.old seen.new }
 {
-    for code in FLOWS..alive.width(joint) {
-        see_value(circuit, items, alive, seen, side, row, joint, taken, code);
+    for code in FLOWS..flowing.alive.width(joint) {
+        see_value(flowing, seen, joint, taken, code);
     }
 }
 
 /// Sees the values that a row gives at a joint for an item that it takes in at another, if they
 /// hang on it.
 fn see_followed<P: Primitive>(
-    circuit: &Circuit<P>,
-    items: &[List<Value>],
-    alive: &RowFlags,
+    flowing: &Flowing<'_, P>,
     seen: &mut RowFlags,
-    side: usize,
-    row: usize,
     source: usize,
     item: &Value,
     joint: usize,
 )
-    requires items { length items.now ≡ length circuit.now.joints }
-    requires alive { HasValuePlaces (net_of P.behaviour circuit.now) items.now alive.now }
-    requires seen { HasValuePlaces (net_of P.behaviour circuit.now) items.now seen.old }
-    requires row { IsRowOf (net_of P.behaviour circuit.now) side row }
-    requires takes { TakesFlow (net_of P.behaviour circuit.now) side row source }
-    requires gives { GivesFlow (net_of P.behaviour circuit.now) side row joint }
-    ensures { let net = net_of P.behaviour circuit.now in
-        AreSeen (FollowedUse net (names_of items.now) (family_of alive.now) row source
-        (Some item.now) joint) seen.old seen.new }
+    requires flowing { IsFlowing (net_of P.behaviour flowing.now.basis.now.circuit.now)
+        flowing.now }
+    requires seen { let net = net_of P.behaviour flowing.now.basis.now.circuit.now in
+        HasPlacesFor net flowing.now seen.old }
+    requires takes { let net = net_of P.behaviour flowing.now.basis.now.circuit.now in
+        TakesThere net flowing.now source }
+    requires gives { let net = net_of P.behaviour flowing.now.basis.now.circuit.now in
+        GivesThere net flowing.now joint }
+    ensures { let net = net_of P.behaviour flowing.now.basis.now.circuit.now in
+        AreSeen (FollowedUse net (names_in flowing.now) (family_in flowing.now) flowing.now.row
+        source (Some item.now) joint) seen.old seen.new }
 {
-    if follows(circuit, side, row, joint, source) {
-        see_given(circuit, items, alive, seen, side, row, joint, Some(item));
+    if follows(
+        flowing.basis.circuit,
+        flowing.side,
+        flowing.row,
+        joint,
+        source,
+    ) {
+        see_given(flowing, seen, joint, Some(item));
     }
 }
 
 /// Sees the values that a row gives for an item that it takes in at a joint.
 fn see_followers<P: Primitive>(
-    circuit: &Circuit<P>,
-    items: &[List<Value>],
-    alive: &RowFlags,
+    flowing: &Flowing<'_, P>,
     seen: &mut RowFlags,
-    side: usize,
-    row: usize,
-    flow: &Flow,
     source: usize,
     item: &Value,
 )
-    requires items { length items.now ≡ length circuit.now.joints }
-    requires alive { HasValuePlaces (net_of P.behaviour circuit.now) items.now alive.now }
-    requires seen { HasValuePlaces (net_of P.behaviour circuit.now) items.now seen.old }
-    requires row { IsRowOf (net_of P.behaviour circuit.now) side row }
-    requires flow { IsFlow (net_of P.behaviour circuit.now) side row flow.now }
-    requires takes { TakesFlow (net_of P.behaviour circuit.now) side row source }
-    ensures { let net = net_of P.behaviour circuit.now in
-        AreSeen (FollowUse net (names_of items.now) (family_of alive.now) side row source
-        (Some item.now)) seen.old seen.new }
+    requires flowing { IsFlowing (net_of P.behaviour flowing.now.basis.now.circuit.now)
+        flowing.now }
+    requires seen { let net = net_of P.behaviour flowing.now.basis.now.circuit.now in
+        HasPlacesFor net flowing.now seen.old }
+    requires takes { let net = net_of P.behaviour flowing.now.basis.now.circuit.now in
+        TakesThere net flowing.now source }
+    ensures { let net = net_of P.behaviour flowing.now.basis.now.circuit.now in
+        AreSeen (FollowUse net (names_in flowing.now) (family_in flowing.now) flowing.now.side
+        flowing.now.row source (Some item.now)) seen.old seen.new }
 {
-    for index in 0..flow.giving.len() {
-        let joint = *flow.giving.at(index);
-        see_followed(circuit, items, alive, seen, side, row, source, item, joint);
+    for index in 0..flowing.flow.giving.len() {
+        let joint = *flowing.flow.giving.at(index);
+        see_followed(flowing, seen, source, item, joint);
     }
 }
 
 /// Sees a value of a joint, by its place, if a row takes it in there with flow, and what it gives
 /// for it.
 fn see_taken<P: Primitive>(
-    basis: &Basis<'_, P>,
-    alive: &RowFlags,
+    flowing: &Flowing<'_, P>,
     seen: &mut RowFlags,
-    side: usize,
-    row: usize,
-    flow: &Flow,
     source: usize,
     code: usize,
 )
-    requires ready { let net = net_of P.behaviour basis.now.circuit.now in
-        IsReadyOn net basis.now alive.now }
-    requires seen { let net = net_of P.behaviour basis.now.circuit.now in
-        HasValuePlaces net basis.now.items.now seen.old }
-    requires row { IsRowOf (net_of P.behaviour basis.now.circuit.now) side row }
-    requires flow { IsFlow (net_of P.behaviour basis.now.circuit.now) side row flow.now }
-    requires takes { TakesFlow (net_of P.behaviour basis.now.circuit.now) side row source }
+    requires flowing { IsFlowing (net_of P.behaviour flowing.now.basis.now.circuit.now)
+        flowing.now }
+    requires seen { let net = net_of P.behaviour flowing.now.basis.now.circuit.now in
+        HasPlacesFor net flowing.now seen.old }
+    requires takes { let net = net_of P.behaviour flowing.now.basis.now.circuit.now in
+        TakesThere net flowing.now source }
     requires flows { 4 ≤ code }
-    requires code { code < length (slice_index_or alive.now source []) }
-    ensures { let net = net_of P.behaviour basis.now.circuit.now in
-        AreSeen (TakenUse net (names_of basis.now.items.now) (family_of alive.now) side row source
-        code) seen.old seen.new }
+    requires code { code < length (slice_index_or flowing.now.alive.now source []) }
+    ensures { let net = net_of P.behaviour flowing.now.basis.now.circuit.now in
+        AreSeen (TakenUse net (names_in flowing.now) (family_in flowing.now) flowing.now.side
+        flowing.now.row source code) seen.old seen.new }
 {
-    if alive.is_set(source, code) && flow_works(basis, alive, side, row, flow, source, code) {
+    if flowing.alive.is_set(source, code) && flow_works(flowing, source, code) {
         seen.put(source, code, true);
-        let item = basis.items[source].at(code - FLOWS);
-        see_followers(
-            basis.circuit,
-            basis.items,
-            alive,
-            seen,
-            side,
-            row,
-            flow,
-            source,
-            item,
-        );
+        let item = flowing.basis.items[source].at(code - FLOWS);
+        see_followers(flowing, seen, source, item);
     }
 }
 
 /// Sees the values that a row takes in with flow at a joint, and what it gives for them.
-fn see_takes<P: Primitive>(
-    basis: &Basis<'_, P>,
-    alive: &RowFlags,
-    seen: &mut RowFlags,
-    side: usize,
-    row: usize,
-    flow: &Flow,
-    source: usize,
-)
-    requires ready { let net = net_of P.behaviour basis.now.circuit.now in
-        IsReadyOn net basis.now alive.now }
-    requires seen { let net = net_of P.behaviour basis.now.circuit.now in
-        HasValuePlaces net basis.now.items.now seen.old }
-    requires row { IsRowOf (net_of P.behaviour basis.now.circuit.now) side row }
-    requires flow { IsFlow (net_of P.behaviour basis.now.circuit.now) side row flow.now }
-    requires takes { TakesFlow (net_of P.behaviour basis.now.circuit.now) side row source }
-    ensures { let net = net_of P.behaviour basis.now.circuit.now in
-        AreSeen (TakesUse net (names_of basis.now.items.now) (family_of alive.now) side row source)
-        seen.old seen.new }
+fn see_takes<P: Primitive>(flowing: &Flowing<'_, P>, seen: &mut RowFlags, source: usize)
+    requires flowing { IsFlowing (net_of P.behaviour flowing.now.basis.now.circuit.now)
+        flowing.now }
+    requires seen { let net = net_of P.behaviour flowing.now.basis.now.circuit.now in
+        HasPlacesFor net flowing.now seen.old }
+    requires takes { let net = net_of P.behaviour flowing.now.basis.now.circuit.now in
+        TakesThere net flowing.now source }
+    ensures { let net = net_of P.behaviour flowing.now.basis.now.circuit.now in
+        AreSeen (TakesUse net (names_in flowing.now) (family_in flowing.now) flowing.now.side
+        flowing.now.row source) seen.old seen.new }
 {
-    for code in FLOWS..alive.width(source) {
-        see_taken(basis, alive, seen, side, row, flow, source, code);
+    for code in FLOWS..flowing.alive.width(source) {
+        see_taken(flowing, seen, source, code);
     }
 }
 
 /// Sees the values that a row gives with flow at a joint, if its state alone decides them.
-fn see_alone<P: Primitive>(
-    circuit: &Circuit<P>,
-    items: &[List<Value>],
-    alive: &RowFlags,
-    seen: &mut RowFlags,
-    side: usize,
-    row: usize,
-    joint: usize,
-)
-    requires items { length items.now ≡ length circuit.now.joints }
-    requires alive { HasValuePlaces (net_of P.behaviour circuit.now) items.now alive.now }
-    requires seen { HasValuePlaces (net_of P.behaviour circuit.now) items.now seen.old }
-    requires row { IsRowOf (net_of P.behaviour circuit.now) side row }
-    requires gives { GivesFlow (net_of P.behaviour circuit.now) side row joint }
-    ensures { let net = net_of P.behaviour circuit.now in
-        AreSeen (AloneUse net (names_of items.now) (family_of alive.now) row joint) seen.old
-        seen.new }
+fn see_alone<P: Primitive>(flowing: &Flowing<'_, P>, seen: &mut RowFlags, joint: usize)
+    requires flowing { IsFlowing (net_of P.behaviour flowing.now.basis.now.circuit.now)
+        flowing.now }
+    requires seen { let net = net_of P.behaviour flowing.now.basis.now.circuit.now in
+        HasPlacesFor net flowing.now seen.old }
+    requires gives { let net = net_of P.behaviour flowing.now.basis.now.circuit.now in
+        GivesThere net flowing.now joint }
+    ensures { let net = net_of P.behaviour flowing.now.basis.now.circuit.now in
+        AreSeen (AloneUse net (names_in flowing.now) (family_in flowing.now) flowing.now.row joint)
+        seen.old seen.new }
 {
-    if source_of(circuit, side, row, joint).is_none() {
-        see_given(circuit, items, alive, seen, side, row, joint, None);
+    if source_of(flowing.basis.circuit, flowing.side, flowing.row, joint).is_none() {
+        see_given(flowing, seen, joint, None);
     }
 }
 
 /// Sees the values with flow that go with a row.
-fn see_row<P: Primitive>(
-    basis: &Basis<'_, P>,
-    alive: &RowFlags,
-    seen: &mut RowFlags,
-    side: usize,
-    row: usize,
-    flow: &Flow,
-)
-    requires ready { let net = net_of P.behaviour basis.now.circuit.now in
-        IsReadyOn net basis.now alive.now }
-    requires seen { let net = net_of P.behaviour basis.now.circuit.now in
-        HasValuePlaces net basis.now.items.now seen.old }
-    requires row { IsRowOf (net_of P.behaviour basis.now.circuit.now) side row }
-    requires flow { IsFlow (net_of P.behaviour basis.now.circuit.now) side row flow.now }
-    ensures { let net = net_of P.behaviour basis.now.circuit.now in
-        AreSeen (RowUse net (names_of basis.now.items.now) (family_of alive.now) side row) seen.old
-        seen.new }
+fn see_row<P: Primitive>(flowing: &Flowing<'_, P>, seen: &mut RowFlags)
+    requires flowing { IsFlowing (net_of P.behaviour flowing.now.basis.now.circuit.now)
+        flowing.now }
+    requires seen { let net = net_of P.behaviour flowing.now.basis.now.circuit.now in
+        HasPlacesFor net flowing.now seen.old }
+    ensures { let net = net_of P.behaviour flowing.now.basis.now.circuit.now in
+        AreSeen (RowUse net (names_in flowing.now) (family_in flowing.now) flowing.now.side
+        flowing.now.row) seen.old seen.new }
 {
-    basis.circuit.known();
-    for index in 0..flow.taking.len() {
-        let source = *flow.taking.at(index);
-        see_takes(basis, alive, seen, side, row, flow, source);
+    flowing.basis.circuit.known();
+    for index in 0..flowing.flow.taking.len() {
+        let source = *flowing.flow.taking.at(index);
+        see_takes(flowing, seen, source);
     }
-    for index in 0..flow.giving.len() {
-        let joint = *flow.giving.at(index);
-        see_alone(basis.circuit, basis.items, alive, seen, side, row, joint);
+    for index in 0..flowing.flow.giving.len() {
+        let joint = *flowing.flow.giving.at(index);
+        see_alone(flowing, seen, joint);
     }
 }
 
@@ -304,8 +256,14 @@ fn see_live<P: Primitive>(
         row) seen.old seen.new }
 {
     if live.is_set(side, row) {
-        let flow = basis.boards.at(side).flows.at(row);
-        see_row(basis, alive, seen, side, row, flow);
+        let flowing = Flowing {
+            basis,
+            alive,
+            side,
+            row,
+            flow: basis.boards.at(side).flows.at(row),
+        };
+        see_row(&flowing, seen);
     }
 }
 

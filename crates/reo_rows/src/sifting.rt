@@ -16,6 +16,7 @@ ghost use Rattle.reo_rows.specs.Sifting.{AreOdds, AreNotedFrom, AreRowsNoted, Is
 
 use crate::basis::Basis;
 use crate::flags::RowFlags;
+use crate::flowing::Flowing;
 use crate::flows::flows_stand;
 use crate::groups::{Group, Odd};
 use crate::rows::Rows;
@@ -152,8 +153,14 @@ fn works<P: Primitive>(
         IsTrue result ↔ RowWorks net (names_of basis.now.items.now) (family_of alive.now) side row }
 {
     basis.circuit.known();
-    let flow = basis.boards.at(side).flows.at(row);
-    marks_stand(basis, alive, side, row, odd) && flows_stand(basis, alive, side, row, flow)
+    let flowing = Flowing {
+        basis,
+        alive,
+        side,
+        row,
+        flow: basis.boards.at(side).flows.at(row),
+    };
+    marks_stand(basis, alive, side, row, odd) && flows_stand(&flowing)
 }
 
 /// Clears the flag of a row of a side if it does not work, and else notes it, where the rows behind

@@ -1,7 +1,7 @@
 //! Whether rows have the marks of values at the joints of their side.
-ghost use Rattle.std.specs.Prelude.{◌≡◌, ◌≢◌, ◌⊎◌, ◌↔◌, ◌<◌, ℕ, IsTrue, true, false, OnOk, MatchOption, Some, length, replicate, slice_index, slice_index_or, []};
+ghost use Rattle.std.specs.Prelude.{◌≡◌, ◌≢◌, ◌⊎◌, ◌↔◌, ◌<◌, ℕ, IsTrue, true, false, OnOk, MatchOption, Some, length, replicate, slice_index};
 ghost use Rattle.reo_net_base.specs.Behaviour.{IsEndOf};
-ghost use Rattle.reo_net_base.specs.Net.{net_of, all_sides, row_count};
+ghost use Rattle.reo_net_base.specs.Net.{net_of, all_sides};
 ghost use Rattle.reo_net_laws.specs.Ends.{IsRowOf};
 ghost use Rattle.reo_net_circuit.specs.found_ends.Ends.{AreEnds};
 ghost use Rattle.reo_side_tables.specs.Marks.{side_in, groups_in, group_in, common_at_joint, IsJointOf};
@@ -12,18 +12,20 @@ ghost use Rattle.reo_rows.specs.Sparing.{IsIdle, IsLacking, CanSpare, AreCleared
 ghost use Rattle.reo_rows.specs.Rows.{AreTables, IsSpared};
 ghost use Rattle.reo_rows.specs.Sets.{family_of};
 ghost use Rattle.reo_rows.specs.Basis.{IsReadyOn};
-ghost use Rattle.reo_rows.specs.Stands.{HasMark, IsAtEnd, MarksStand, GroupStands, GroupStandsBesides, StandsAtEnd};
+ghost use Rattle.reo_rows.specs.Resting.{IsResting, HasRowPlaces};
+ghost use Rattle.reo_rows.specs.Stands.{HasMark, IsAtEnd, MarksStand, GroupStandsBesides, StandsAtEnd};
 
 use crate::basis::Basis;
 use crate::flags::RowFlags;
 use crate::groups::{Group, Odd};
 use crate::lists::apart_there;
 use crate::marks::marks_left;
+use crate::resting::Resting;
 use crate::rows::Rows;
 use reo_lanes::keep_rows;
 use reo_net_base::{End, Primitive};
 use reo_net_circuit::{Circuit, Ends};
-use reo_side_tables::{Board, Flow, Marks, end_at, mark_at_joint};
+use reo_side_tables::{Board, Flow, end_at, mark_at_joint};
 use reo_values::{List, NoMemory};
 
 /// So many ones in the place of all bytes. `NoMemory` is out of memory.
@@ -244,24 +246,19 @@ fn notes_row(noted: Group, row: usize) -> bool
     noted.first == Some(row) || noted.other == Some(row)
 }
 
-/// Whether a row with its flag lacks a mark at a joint: it does not have one of these there.
-fn lacks_mark<P: Primitive>(
-    circuit: &Circuit<P>,
-    live: &RowFlags,
-    side: usize,
-    row: usize,
-    joint: usize,
-    marks: Marks,
-) -> bool
-    requires side { side < length live.now }
-    requires width { let net = net_of P.behaviour circuit.now in
-        length (slice_index_or live.now side []) ≡ row_count (side_in net side) }
-    requires row { IsRowOf (net_of P.behaviour circuit.now) side row }
-    requires joint { IsJointOf (net_of P.behaviour circuit.now) side joint }
-    ensures { let net = net_of P.behaviour circuit.now in
-        IsTrue result ↔ IsLacking net live.now side joint marks row }
+/// Whether a row with its flag lacks a mark at a joint: it does not have one that is left there.
+fn lacks_mark<P: Primitive>(resting: &Resting<'_, P>, live: &RowFlags, row: usize) -> bool
+    requires resting { IsResting (net_of P.behaviour resting.now.circuit.now) resting.now }
+    requires live { let net = net_of P.behaviour resting.now.circuit.now in
+        HasRowPlaces net resting.now live.now }
+    requires row { let net = net_of P.behaviour resting.now.circuit.now in
+        IsRowOf net resting.now.side row }
+    ensures { let net = net_of P.behaviour resting.now.circuit.now in
+        IsTrue result ↔ IsLacking net live.now resting.now.side resting.now.joint resting.now.marks
+        row }
 {
-    live.is_set(side, row) && !marks.has(mark_at_joint(circuit, side, row, joint))
+    live.is_set(resting.side, row)
+        && !resting.marks.has(mark_at_joint(resting.circuit, resting.side, row, resting.joint))
 }
 
 /// Whether a row takes in and gives nothing.
@@ -294,31 +291,29 @@ fn is_idle<P: Primitive>(
 
 /// Whether the rows of a list that lack a mark at a joint of their side are all idle.
 fn can_spare<P: Primitive>(
-    circuit: &Circuit<P>,
+    resting: &Resting<'_, P>,
     board: &Board,
     live: &RowFlags,
     notes: &List<Group>,
-    side: usize,
     list: &[usize],
-    joint: usize,
-    marks: Marks,
 ) -> bool
-    requires side { side < length (all_sides (net_of P.behaviour circuit.now).primitives) }
-    requires live { side < length live.now }
-    requires width { let net = net_of P.behaviour circuit.now in
-        length (slice_index_or live.now side []) ≡ row_count (side_in net side) }
-    requires board { IsBoard (net_of P.behaviour circuit.now) side board.now }
-    requires notes { length notes.now ≡ groups_in (net_of P.behaviour circuit.now) side }
-    requires joint { IsJointOf (net_of P.behaviour circuit.now) side joint }
-    requires list { let net = net_of P.behaviour circuit.now in
-        (m : ℕ) → m < length list.now → IsRowOf net side (slice_index list.now m) }
-    ensures { let net = net_of P.behaviour circuit.now in
-        IsTrue result ↔ CanSpare net live.now notes.now side joint marks list.now }
+    requires resting { IsResting (net_of P.behaviour resting.now.circuit.now) resting.now }
+    requires board { let net = net_of P.behaviour resting.now.circuit.now in
+        IsBoard net resting.now.side board.now }
+    requires live { let net = net_of P.behaviour resting.now.circuit.now in
+        HasRowPlaces net resting.now live.now }
+    requires notes { let net = net_of P.behaviour resting.now.circuit.now in
+        length notes.now ≡ groups_in net resting.now.side }
+    requires list { let net = net_of P.behaviour resting.now.circuit.now in
+        (m : ℕ) → m < length list.now → IsRowOf net resting.now.side (slice_index list.now m) }
+    ensures { let net = net_of P.behaviour resting.now.circuit.now in
+        IsTrue result ↔ CanSpare net live.now notes.now resting.now.side resting.now.joint
+        resting.now.marks list.now }
 {
     for index in 0..list.len() {
         let row = list[index];
-        if lacks_mark(circuit, live, side, row, joint, marks)
-            && !is_idle(circuit, board, notes, side, row)
+        if lacks_mark(resting, live, row)
+            && !is_idle(resting.circuit, board, notes, resting.side, row)
         {
             return false;
         }
@@ -327,50 +322,43 @@ fn can_spare<P: Primitive>(
 }
 
 /// Clears the flags of the rows of a list that lack a mark at a joint of their side.
-fn clear_lacking<P: Primitive>(
-    circuit: &Circuit<P>,
-    live: &mut RowFlags,
-    side: usize,
-    list: &[usize],
-    joint: usize,
-    marks: Marks,
-)
-    requires live { side < length live.old }
-    requires width { let net = net_of P.behaviour circuit.now in
-        length (slice_index_or live.old side []) ≡ row_count (side_in net side) }
-    requires joint { IsJointOf (net_of P.behaviour circuit.now) side joint }
-    requires list { let net = net_of P.behaviour circuit.now in
-        (m : ℕ) → m < length list.now → IsRowOf net side (slice_index list.now m) }
+fn clear_lacking<P: Primitive>(resting: &Resting<'_, P>, live: &mut RowFlags, list: &[usize])
+    requires resting { IsResting (net_of P.behaviour resting.now.circuit.now) resting.now }
+    requires live { let net = net_of P.behaviour resting.now.circuit.now in
+        HasRowPlaces net resting.now live.old }
+    requires list { let net = net_of P.behaviour resting.now.circuit.now in
+        (m : ℕ) → m < length list.now → IsRowOf net resting.now.side (slice_index list.now m) }
     ensures alike { AreAlikeTables live.old live.new }
-    ensures cleared { let net = net_of P.behaviour circuit.now in
-        AreCleared net side joint marks list.now (length list.now) live.old live.new }
+    ensures cleared { let net = net_of P.behaviour resting.now.circuit.now in
+        AreCleared net resting.now.side resting.now.joint resting.now.marks list.now
+        (length list.now) live.old live.new }
 {
     for index in 0..list.len() {
         let row = list[index];
-        if lacks_mark(circuit, live, side, row, joint, marks) {
-            live.clear(side, row);
+        if lacks_mark(resting, live, row) {
+            live.clear(resting.side, row);
         }
     }
 }
 
-/// Whether each group of a side of which a row is noted has one of these marks at a joint there.
-fn groups_have<P: Primitive>(
-    circuit: &Circuit<P>,
-    notes: &List<Group>,
-    side: usize,
-    joint: usize,
-    marks: Marks,
-) -> bool
-    requires side { side < length (all_sides (net_of P.behaviour circuit.now).primitives) }
-    requires notes { length notes.now ≡ groups_in (net_of P.behaviour circuit.now) side }
-    requires joint { IsJointOf (net_of P.behaviour circuit.now) side joint }
-    ensures { let net = net_of P.behaviour circuit.now in
-        IsTrue result ↔ GroupsHave net notes.now side joint marks }
+/// Whether each group of a side of which a row is noted has one of the marks that are left at a
+/// joint there.
+fn groups_have<P: Primitive>(resting: &Resting<'_, P>, notes: &List<Group>) -> bool
+    requires resting { IsResting (net_of P.behaviour resting.now.circuit.now) resting.now }
+    requires notes { let net = net_of P.behaviour resting.now.circuit.now in
+        length notes.now ≡ groups_in net resting.now.side }
+    ensures { let net = net_of P.behaviour resting.now.circuit.now in
+        IsTrue result ↔ GroupsHave net notes.now resting.now.side resting.now.joint
+        resting.now.marks }
 {
-    circuit.known();
-    let end = end_at(circuit, side, joint);
+    resting.circuit.known();
+    let end = end_at(resting.circuit, resting.side, resting.joint);
     for group in 0..notes.len() {
-        if notes.at(group).first.is_some() && !marks.has(circuit.common(side, group, end.end)) {
+        if notes.at(group).first.is_some()
+            && !resting
+                .marks
+                .has(resting.circuit.common(resting.side, group, end.end))
+        {
             return false;
         }
     }
@@ -407,19 +395,14 @@ pub fn can_stay<P: Primitive>(
     let marks = marks_left(basis, alive, side, joint);
     let apart = apart_there(basis.circuit, basis.boards, side, joint);
     let notes = rows.notes.at(side);
-    if groups_have(basis.circuit, notes, side, joint, marks)
-        && can_spare(
-            basis.circuit,
-            board,
-            &rows.live,
-            notes,
-            side,
-            apart,
-            joint,
-            marks,
-        )
-    {
-        clear_lacking(basis.circuit, &mut rows.live, side, apart, joint, marks);
+    let resting = Resting {
+        circuit: basis.circuit,
+        side,
+        joint,
+        marks,
+    };
+    if groups_have(&resting, notes) && can_spare(&resting, board, &rows.live, notes, apart) {
+        clear_lacking(&resting, &mut rows.live, apart);
         return true;
     }
     false

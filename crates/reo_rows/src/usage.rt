@@ -7,13 +7,13 @@ ghost use Rattle.reo_joint_values.specs.Values.{Family};
 ghost use Rattle.reo_joint_values.specs.Supported.{IsUsed};
 ghost use Rattle.reo_side_tables.specs.Boards.{AreBoards};
 ghost use Rattle.reo_side_tables.specs.Marks.{side_in, groups_in, mark_at_joint, IsJointOf};
-ghost use Rattle.reo_rows.specs.RowFlags.{flag};
 ghost use Rattle.reo_rows.specs.Groups.{IsNotedOf, AreNoted};
 ghost use Rattle.reo_rows.specs.Rows.{AreTables, IsSifted, IsSeen};
 ghost use Rattle.reo_rows.specs.Sets.{value_of, names_of};
 ghost use Rattle.reo_side_tables.specs.Sets.{marks_has};
-ghost use Rattle.reo_rows.specs.Usage.{HasCommonRow, IsCommonMark, IsListedMark};
+ghost use Rattle.reo_rows.specs.Usage.{HasCommonRow, IsCommonMark, IsListedMark, AreUsedMarks};
 
+use crate::basis::Basis;
 use crate::flags::RowFlags;
 use crate::groups::Group;
 use crate::lists::apart_there;
@@ -21,8 +21,7 @@ use crate::marks::{FLOWS, mark_seen};
 use crate::rows::Rows;
 use reo_net_base::Primitive;
 use reo_net_circuit::Circuit;
-use reo_side_tables::{Board, Marks, end_at, mark_at_joint};
-use reo_values::{List, Value};
+use reo_side_tables::{Marks, end_at, mark_at_joint};
 
 /// Whether some row is as its group at an end, by what is noted of the rows.
 fn has_common_row<P: Primitive>(circuit: &Circuit<P>, side: usize, noted: Group, end: usize) -> bool
@@ -41,23 +40,20 @@ fn has_common_row<P: Primitive>(circuit: &Circuit<P>, side: usize, noted: Group,
 
 /// The marks that the groups of a side have at a joint there, where a row with its flag is as its
 /// group.
-fn common_marks<P: Primitive>(
-    circuit: &Circuit<P>,
-    items: &[List<Value>],
-    rows: &Rows,
-    side: usize,
-    joint: usize,
-) -> Marks
-    requires tables { AreTables (net_of P.behaviour circuit.now) items.now rows.now }
-    requires side { side < length (all_sides (net_of P.behaviour circuit.now).primitives) }
-    requires noted { AreNoted (net_of P.behaviour circuit.now) rows.now.live side rows.now.notes }
-    requires joint { IsJointOf (net_of P.behaviour circuit.now) side joint }
-    ensures { let net = net_of P.behaviour circuit.now in
+fn common_marks<P: Primitive>(basis: &Basis<'_, P>, rows: &Rows, side: usize, joint: usize) -> Marks
+    requires tables { let net = net_of P.behaviour basis.now.circuit.now in
+        AreTables net basis.now.items.now rows.now }
+    requires side { let net = net_of P.behaviour basis.now.circuit.now in
+        side < length (all_sides net.primitives) }
+    requires noted { let net = net_of P.behaviour basis.now.circuit.now in
+        AreNoted net rows.now.live side rows.now.notes }
+    requires joint { IsJointOf (net_of P.behaviour basis.now.circuit.now) side joint }
+    ensures { let net = net_of P.behaviour basis.now.circuit.now in
         (m : Said) → (marks_has result m ≡ true) ↔ IsCommonMark net rows.now.live side joint
         (groups_in net side) m }
 {
+    let circuit = basis.circuit;
     circuit.known();
-    let _ = items;
     let end = end_at(circuit, side, joint);
     let notes = rows.notes.at(side);
     let mut marks = Marks::none();
@@ -111,55 +107,54 @@ fn both(one: Marks, other: Marks) -> Marks
 
 /// The marks that the rows of a side with their flags have at a joint there.
 pub fn used_marks<P: Primitive>(
-    circuit: &Circuit<P>,
-    boards: &List<Board>,
-    items: &[List<Value>],
+    basis: &Basis<'_, P>,
     rows: &Rows,
     side: usize,
     joint: usize,
 ) -> Marks
-    requires boards { AreBoards (net_of P.behaviour circuit.now) boards.now }
-    requires tables { AreTables (net_of P.behaviour circuit.now) items.now rows.now }
-    requires side { side < length (all_sides (net_of P.behaviour circuit.now).primitives) }
-    requires noted { AreNoted (net_of P.behaviour circuit.now) rows.now.live side rows.now.notes }
-    requires joint { IsJointOf (net_of P.behaviour circuit.now) side joint }
-    ensures { let net = net_of P.behaviour circuit.now in
-        (m : Said) → (marks_has result m ≡ true) ↔ ((row : ℕ) × (flag rows.now.live side row ≡ true)
-        × (mark_at_joint net side row joint ≡ m)) }
+    requires boards { AreBoards (net_of P.behaviour basis.now.circuit.now) basis.now.boards.now }
+    requires tables { let net = net_of P.behaviour basis.now.circuit.now in
+        AreTables net basis.now.items.now rows.now }
+    requires side { let net = net_of P.behaviour basis.now.circuit.now in
+        side < length (all_sides net.primitives) }
+    requires noted { let net = net_of P.behaviour basis.now.circuit.now in
+        AreNoted net rows.now.live side rows.now.notes }
+    requires joint { IsJointOf (net_of P.behaviour basis.now.circuit.now) side joint }
+    ensures { let net = net_of P.behaviour basis.now.circuit.now in
+        AreUsedMarks net rows.now.live side joint result }
 {
-    circuit.known();
-    let apart = apart_there(circuit, boards, side, joint);
-    let common = common_marks(circuit, items, rows, side, joint);
-    let listed = listed_marks(circuit, &rows.live, side, joint, apart);
+    basis.circuit.known();
+    let apart = apart_there(basis.circuit, basis.boards, side, joint);
+    let common = common_marks(basis, rows, side, joint);
+    let listed = listed_marks(basis.circuit, &rows.live, side, joint, apart);
     both(common, listed)
 }
 
 /// Whether a value of a joint, by its place, is used at a side, where these are the marks that the
 /// rows of the side have there.
 pub fn is_used<P: Primitive>(
-    circuit: &Circuit<P>,
-    items: &[List<Value>],
+    basis: &Basis<'_, P>,
     rows: &Rows,
     side: usize,
     joint: usize,
     code: usize,
     marks: Marks,
 ) -> bool
-    requires tables { AreTables (net_of P.behaviour circuit.now) items.now rows.now }
-    requires joint { IsJointOf (net_of P.behaviour circuit.now) side joint }
+    requires tables { let net = net_of P.behaviour basis.now.circuit.now in
+        AreTables net basis.now.items.now rows.now }
+    requires joint { IsJointOf (net_of P.behaviour basis.now.circuit.now) side joint }
     requires code { code < length (slice_index_or rows.now.seen joint []) }
-    requires marks { let net = net_of P.behaviour circuit.now in
-        (m : Said) → (marks_has marks m ≡ true) ↔ ((row : ℕ) × (flag rows.now.live side row ≡ true)
-        × (mark_at_joint net side row joint ≡ m)) }
-    ensures { let net = net_of P.behaviour circuit.now in
-        (family : Family) → IsSifted net (names_of items.now) family side rows.now
-        → IsSeen net (names_of items.now) family side rows.now → family joint (value_of code) ≡ true
-        → IsTrue result ↔ IsUsed net (names_of items.now) family side joint (value_of code) }
+    requires marks { let net = net_of P.behaviour basis.now.circuit.now in
+        AreUsedMarks net rows.now.live side joint marks }
+    ensures { let net = net_of P.behaviour basis.now.circuit.now in
+        let names = names_of basis.now.items.now in
+        (family : Family) → IsSifted net names family side rows.now
+        → IsSeen net names family side rows.now → family joint (value_of code) ≡ true
+        → IsTrue result ↔ IsUsed net names family side joint (value_of code) }
 {
-    circuit.known();
-    let _ = items;
+    basis.circuit.known();
     if code < FLOWS {
-        marks.has(mark_seen(circuit, side, joint, code))
+        marks.has(mark_seen(basis.circuit, side, joint, code))
     } else {
         rows.seen.is_set(joint, code)
     }

@@ -6,4 +6,4 @@ use Rattle.reo_side_tables.specs.Sets.{marks_has}
 use Rattle.reo_rows.proofs.standing.groups_have.Given as goal
 
 abbrev pub invariant-loop-group : goal.invariant-loop-group
-invariant-loop-group g l = (k : ℕ) (d : Group) → k < l.group → (get_or l.notes k d).first ≢ None → marks_has l.marks (common_at_joint (net_of g.P.Primitive.behaviour l.circuit) l.side k l.joint) ≡ true
+invariant-loop-group g l = (k : ℕ) (d : Group) → k < l.group → (get_or l.notes k d).first ≢ None → marks_has l.resting.marks (common_at_joint (net_of g.P.Primitive.behaviour l.resting.circuit.now) l.resting.side k l.resting.joint) ≡ true

@@ -15,24 +15,24 @@ use Rattle.reo_rows.proofs.usage.common_marks.Goals as goal
 
 pub has_common_row-requires-clause-first : goal.has_common_row-requires-clause-first
 has_common_row-requires-clause-first g c =
-    let net : Net = net_of g.P.Primitive.behaviour c.args.circuit.now in
+    let net : Net = net_of g.P.Primitive.behaviour c.args.basis.now.circuit.now in
     let lt : c.loop-group.group < groups_in net c.args.side = omega (arith, c.loop-group-test.true, c.groups-group-end.ensures no_side) in
-    first_read net c.known.ensures.wired c.args.items.now c.args.rows.now c.requires.tables c.args.side c.requires.side c.args.joint c.requires.joint c.requires.noted
+    first_read net c.known.ensures.wired c.args.basis.now.items.now c.args.rows.now c.requires.tables c.args.side c.requires.side c.args.joint c.requires.joint c.requires.noted
     c.at-notes.result.now c.at-notes.ensures c.loop-group.group lt c.at.result.now c.at.ensures
 
 pub common-requires-clause-end : goal.common-requires-clause-end
-common-requires-clause-end g c = end_read (net_of g.P.Primitive.behaviour c.args.circuit.now) c.known.ensures.wired c.args.side c.args.joint c.requires.joint c.end_at-end.result c.end_at-end.ensures
+common-requires-clause-end g c = end_read (net_of g.P.Primitive.behaviour c.args.basis.now.circuit.now) c.known.ensures.wired c.args.side c.args.joint c.requires.joint c.end_at-end.result c.end_at-end.ensures
 
 pub loop-group-preserved : goal.loop-group-preserved
 loop-group-preserved g c =
-    let net : Net = net_of g.P.Primitive.behaviour c.args.circuit.now in
+    let net : Net = net_of g.P.Primitive.behaviour c.args.basis.now.circuit.now in
     let side : ℕ = c.args.side in
     let joint : ℕ = c.args.joint in
     let group : ℕ = c.loop-group.group in
     let live : List (List Bool) = c.args.rows.now.live in
     let lt : group < groups_in net side = omega (arith, c.loop-group-test.true, c.groups-group-end.ensures no_side) in
     let noted : IsNotedOf net side (live_in net live side group) c.at.result.now =
-    noted_read net c.known.ensures.wired c.args.items.now c.args.rows.now c.requires.tables side c.requires.side joint c.requires.joint c.requires.noted
+    noted_read net c.known.ensures.wired c.args.basis.now.items.now c.args.rows.now c.requires.tables side c.requires.side joint c.requires.joint c.requires.noted
     c.at-notes.result.now c.at-notes.ensures group lt c.at.result.now c.at.ensures in
     let told = subst (λ (e : End). (c.has_common_row.result ≡ true) ↔ HasCommonRow net (live_in net live side group) side e.end) c.end_at-end.ensures (c.has_common_row.ensures (live_in net live side group) noted) in
     elim c.if-has_common_row.branch [
