@@ -40,7 +40,7 @@ static int go(struct reo_handle *router, const size_t *ports, const char *item, 
     if (number != REO_DONE)
         return fail("take", number);
     struct reo_round round = {0};
-    number = reo_round(router, 1000000, &round);
+    number = reo_round(router, 999999999999999999, &round);
     if (number != REO_DONE)
         return fail("round", number);
     printf("round %" PRIu64 ":", round.number);

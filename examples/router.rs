@@ -115,7 +115,7 @@ impl Connector {
 
     fn round(&mut self) -> Result<Round, Refused> {
         let mut round = Round::default();
-        done(unsafe { reo_round(&mut self.0, 1_000_000, &mut round) })?;
+        done(unsafe { reo_round(&mut self.0, 999_999_999_999_999_999, &mut round) })?;
         Ok(round)
     }
 

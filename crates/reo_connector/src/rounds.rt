@@ -49,8 +49,8 @@ impl Connector {
     /// flowed, in order, with their items, whether nothing flowed at all, and how many sides
     /// jammed. The offers of the ports that flowed are gone; the others are pending still.
     ///
-    /// The budget bounds the choices that a search of one part may make; one of `1,000,000` serves
-    /// all but odd circuits.
+    /// The budget bounds the weight of a part and not the work: the greatest, 10^18 - 1, serves,
+    /// unless heavier parts are to be refused.
     ///
     /// # Errors
     ///

@@ -25,8 +25,8 @@ const ROUTER: &[u8] =
   syncdrain source chosen;
 }";
 
-/// The choices that the search of one part of the circuit may make.
-const BUDGET: u64 = 1_000_000;
+/// The greatest weight that a part of the circuit may have: the greatest there is.
+const BUDGET: u64 = 999_999_999_999_999_999;
 
 /// The rounds that the program may make.
 const MOST_ROUNDS: u64 = 1_000_000;
