@@ -1,6 +1,6 @@
 //! Logs that are made.
 use crate::prove_tests::circuits::{drained, synced};
-use crate::prove_tests::parts::{both, doubled, resting};
+use crate::prove_tests::parts::{both, doubled, half_taken, resting};
 use crate::prove_tests::writers::merged;
 use reo_kinds::Kind;
 use reo_net::plain_first;
@@ -103,5 +103,37 @@ fn parts_add_their_own_lines(rt: HostRuntime) -> Result<(), Fail> {
     let together = lines(&rt, rt.alloc(), &both(&rt, rt.alloc())?)?;
     assert!(rt; one > 0 && other > 0);
     assert!(rt; together == one.saturating_add(other));
+    Ok(())
+}
+
+/// A text without the line of this number, counted from 0.
+fn without(alloc: Global, text: &[u8], number: usize) -> Result<Bytes, NoMemory> {
+    let mut rest = Bytes::new(alloc);
+    let mut line: usize = 0;
+    for index in 0..text.len() {
+        if line != number {
+            rest.push(text[index])?;
+        }
+        if text[index] == b'\n' {
+            line = line.saturating_add(1);
+        }
+    }
+    Ok(rest)
+}
+
+/// A log has no line that it could do without: here the replicator's rows take values away at all
+/// three of its joints, and the taker that takes nothing asks for those at its own alone.
+#[test]
+fn no_line_is_idle(rt: HostRuntime) -> Result<(), Fail> {
+    let alloc = rt.alloc();
+    let circuit = half_taken(&rt, alloc)?;
+    let rows: [u32; 4] = [1, 1, 0, 3];
+    let log = made(&rt, alloc, &circuit, &rows)?;
+    let text = log.as_slice();
+    assert!(rt; check_proof(alloc, &circuit, 1, &rows, text) == Ok(()));
+    for number in 0..count_lines(text) {
+        let rest = without(alloc, text, number)?;
+        assert!(rt; check_proof(alloc, &circuit, 1, &rows, rest.as_slice()) != Ok(()));
+    }
     Ok(())
 }

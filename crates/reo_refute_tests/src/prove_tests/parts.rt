@@ -64,3 +64,17 @@ pub fn both(rt: &impl Abort, alloc: Global) -> Result<Circuit<Kind>, Fail> {
     joints.push(joint([8, 2, 3, 0]))?;
     put_together(rt, alloc, list, 4, joints)
 }
+
+/// A port at which 3 is offered, and two takers behind a replicator of which one takes nothing.
+pub fn half_taken(rt: &impl Abort, alloc: Global) -> Result<Circuit<Kind>, Fail> {
+    let mut list = List::new(alloc);
+    list.push(Kind::Writer(WriterPort::offering(Kindred::Int(0, 9), Value::Int(3))))?;
+    list.push(Kind::Taker(TakerPort { pending: true }))?;
+    list.push(Kind::Taker(TakerPort { pending: false }))?;
+    list.push(Kind::Replicator(Branches::new(2)))?;
+    let mut joints = List::new(alloc);
+    joints.push(joint([0, 0, 3, 0]))?;
+    joints.push(joint([3, 1, 1, 0]))?;
+    joints.push(joint([3, 2, 2, 0]))?;
+    put_together(rt, alloc, list, 3, joints)
+}
