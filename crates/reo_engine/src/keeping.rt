@@ -10,6 +10,7 @@ use crate::engine::Engine;
 use crate::flows::{rewritten, take_rows};
 use reo_net_base::Ported;
 use reo_rounds::Exceeds;
+use reo_settling::Planning;
 use reo_steps::Steps;
 use std::alloc::Global;
 use std::sync::ledger::Ledger;
@@ -55,17 +56,16 @@ impl<P: Ported> Engine<P> {
             return Ok(());
         }
         let over = take_rows(alloc, &mut self.flows.rows, self.kept.rows())?;
-        let rows = self.lookups.find_rows(
-            alloc,
-            &self.circuit,
-            &self.knots,
-            &self.ends,
-            &self.kept,
-            self.rounds + 1,
+        let planning = Planning {
+            circuit: &self.circuit,
+            knots: &self.knots,
+            ends: &self.ends,
+            turn: self.rounds + 1,
             budget,
-            steps,
-            over,
-        )?;
+        };
+        let rows = self
+            .lookups
+            .find_rows(alloc, &planning, &self.kept, steps, over)?;
         self.flows.shown = false;
         let flowing = self.lookups.flowing();
         let list = self

@@ -1,15 +1,13 @@
 //! Rounds that stand, and are made at the cost of what flows.
 ghost use Rattle.std.specs.Prelude.{◌≡◌, ◌+◌, ◌<◌, ◌≤◌, ◌^◌, ℕ, true, IfOk, OnOk, MatchResult, map};
-ghost use Rattle.reo_net_base.specs.Net.{net_of};
 ghost use Rattle.reo_net_circuit.specs.Offers.{AreAfterRound};
-ghost use Rattle.reo_net_circuit.specs.found_ends.Ends.{AreEnds};
 ghost use Rattle.reo_net_base.specs.Step.{stepped};
 ghost use Rattle.reo_trace.specs.Entries.{line_for};
 ghost use Rattle.reo_trace.specs.RoundText.{round_text};
 ghost use Rattle.reo_rounds.specs.Plans.{IsPlanFault};
-ghost use Rattle.reo_net_laws.specs.Knots.{AreKnots, knot_count};
+ghost use Rattle.reo_net_laws.specs.Knots.{knot_count};
 ghost use Rattle.reo_flows.specs.flowing.Flowing.{AreFlowingIn};
-ghost use Rattle.reo_settling.specs.Plannings.{AllServe, AreWeights, sum_below, weight_left};
+ghost use Rattle.reo_settling.specs.Plannings.{AllServe, IsPlanning, AreWeights, net_in, sum_below, weight_left};
 ghost use Rattle.reo_flows.specs.stepping.Changes.{AreThoseThatFlowed};
 ghost use Rattle.reo_engine.specs.Changes.{OthersStay};
 ghost use Rattle.reo_round.specs.Filling.{AreMoving};
@@ -23,12 +21,10 @@ use crate::engine::Engine;
 use crate::flows::{Flows, take_sheet};
 use crate::renewing::renew_marked;
 use reo_flows::step_marked;
-use reo_knots::Knots;
 use reo_net_base::{Colouring, Move, Ported, Ports, Primitive};
-use reo_net_circuit::{Circuit, Ends};
 use reo_round::{MadeRound, cleared, make_round};
 use reo_rounds::Exceeds;
-use reo_settling::Kept;
+use reo_settling::{Kept, Planning};
 use reo_steps::Steps;
 use reo_trace::RoundLine;
 use reo_values::{Bytes, List, NoMemory};
@@ -40,34 +36,44 @@ use std::sync::ledger::Ledger;
 /// with stays right. `NoMemory` is out of memory.
 fn make_by<P: Primitive>(
     alloc: Global,
-    circuit: &Circuit<P>,
-    knots: &Knots,
-    ends: &Ends,
+    planning: &Planning<'_, P>,
     kept: &Kept,
     lists: &List<List<usize>>,
     flows: &mut Flows,
-    turn: u64,
 ) -> Result<MadeRound, NoMemory>
-    requires knots { AreKnots (net_of P.behaviour circuit.now) knots.now }
-    requires ends { AreEnds (net_of P.behaviour circuit.now) ends.now }
-    requires first { HaveFirstItems (net_of P.behaviour circuit.now) turn kept.now.rows }
-    requires lists { AreFlowingIn
-        (net_of P.behaviour circuit.now) knots.now kept.now.rows (λ _. true) lists.now }
-    requires moving { AreMoving (knot_count knots.now) kept.now.moving lists.now }
-    requires flows { AreFlows (net_of P.behaviour circuit.now) knots.now kept.now flows.old }
-    ensures is_made { let net = net_of P.behaviour circuit.now in
-        IfOk result (IsMadeRound net circuit.now.ports turn) }
+    requires planning { IsPlanning (net_in P.behaviour planning.now) planning.now }
+    requires first { let turn = planning.now.turn in
+        HaveFirstItems (net_in P.behaviour planning.now) turn kept.now.rows }
+    requires lists { let knots = planning.now.knots.now in
+        AreFlowingIn
+        (net_in P.behaviour planning.now) knots kept.now.rows (λ _. true) lists.now }
+    requires moving { let count = knot_count planning.now.knots.now in
+        AreMoving count kept.now.moving lists.now }
+    requires flows { let knots = planning.now.knots.now in
+        AreFlows (net_in P.behaviour planning.now) knots kept.now flows.old }
+    ensures is_made { let ports = planning.now.circuit.now.ports in
+        let turn = planning.now.turn in
+        IfOk result (IsMadeRound (net_in P.behaviour planning.now) ports turn) }
     ensures rows { IfOk result (λ made. made.colouring.rows ≡ kept.now.rows) }
-    ensures flows { AreFlows (net_of P.behaviour circuit.now) knots.now kept.now flows.new }
+    ensures flows { let knots = planning.now.knots.now in
+        AreFlows (net_in P.behaviour planning.now) knots kept.now flows.new }
     ensures cells { flows.new.cells ≡ flows.old.cells }
 {
-    let joints = circuit.joint_count();
-    let primitives = circuit.primitives().len();
+    let joints = planning.circuit.joint_count();
+    let primitives = planning.circuit.primitives().len();
     let sheet = take_sheet(alloc, flows, kept.rows(), joints, primitives)?;
     let moving = kept.moving();
     let feeds = &flows.feeds;
     make_round(
-        alloc, circuit, knots, ends, feeds, lists, moving, turn, sheet,
+        alloc,
+        planning.circuit,
+        planning.knots,
+        planning.ends,
+        feeds,
+        lists,
+        moving,
+        planning.turn,
+        sheet,
     )
 }
 
@@ -110,28 +116,23 @@ impl<P: Ported> Engine<P> {
     {
         self.circuit.known();
         let turn = self.rounds + 1;
+        let planning = Planning {
+            circuit: &self.circuit,
+            knots: &self.knots,
+            ends: &self.ends,
+            turn,
+            budget,
+        };
         renew_marked(
             alloc,
-            &self.circuit,
-            &self.knots,
-            &self.ends,
+            &planning,
             &mut self.kept,
             &mut self.lookups,
             &mut self.flows,
-            turn,
-            budget,
             steps,
         )?;
-        let made_round = make_by(
-            alloc,
-            &self.circuit,
-            &self.knots,
-            &self.ends,
-            &self.kept,
-            self.lookups.flowing(),
-            &mut self.flows,
-            turn,
-        )?;
+        let lists = self.lookups.flowing();
+        let made_round = make_by(alloc, &planning, &self.kept, lists, &mut self.flows)?;
         let RoundLine { idle, moves, .. } = &made_round.line;
         let over = replace(&mut self.flows.text, Bytes::new(alloc));
         let cells = &self.flows.cells;

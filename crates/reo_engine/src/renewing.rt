@@ -1,21 +1,17 @@
 //! Rows that are kept, brought up to date.
-ghost use Rattle.std.specs.Prelude.{◌≡◌, ◌<◌, ◌≤◌, ◌+◌, ◌^◌, ℕ, true, None, IfOk, OnOk, OnErr, MatchResult};
-ghost use Rattle.reo_net_base.specs.Net.{net_of};
-ghost use Rattle.reo_net_circuit.specs.found_ends.Ends.{AreEnds};
-ghost use Rattle.reo_net_laws.specs.Knots.{AreKnots, knot_count};
+ghost use Rattle.std.specs.Prelude.{◌≡◌, ◌≤◌, ◌+◌, ℕ, true, None, IfOk, OnOk, OnErr, MatchResult};
+ghost use Rattle.reo_net_laws.specs.Knots.{knot_count};
 ghost use Rattle.reo_rounds.specs.Plans.{IsPlanFault};
-ghost use Rattle.reo_settling.specs.Plannings.{AllServe, IsKept, AreWeights, sum_below, weight_left};
+ghost use Rattle.reo_settling.specs.Plannings.{AllServe, IsKept, IsPlanning, AreWeights, net_in, sum_below, weight_left};
 ghost use Rattle.reo_settling.specs.Lookups.{AreLookups};
 ghost use Rattle.reo_trace.specs.cells.Cells.{AreShown};
 ghost use Rattle.reo_engine.specs.Flows.{AreFlows, MayBeRows};
 ghost use Rattle.reo_engine.specs.MadeWithin.{AreRenewed};
 
 use crate::flows::{Flows, flag_shown, show_rest, take_rows};
-use reo_knots::Knots;
 use reo_net_base::Primitive;
-use reo_net_circuit::{Circuit, Ends};
 use reo_rounds::Exceeds;
-use reo_settling::{Kept, Lookups};
+use reo_settling::{Kept, Lookups, Planning};
 use reo_steps::Steps;
 use reo_values::List;
 use std::alloc::Global;
@@ -32,45 +28,50 @@ use std::sync::ledger::Ledger;
 /// of memory.
 fn renew<P: Primitive, L: Ledger>(
     alloc: Global,
-    circuit: &Circuit<P>,
-    knots: &Knots,
-    ends: &Ends,
+    planning: &Planning<'_, P>,
     kept: &mut Kept,
     lookups: &mut Lookups,
-    turn: u64,
-    budget: u64,
     steps: &mut Steps<L>,
     list: &mut Option<List<u32>>,
 ) -> Result<List<u32>, Exceeds>
-    requires knots { AreKnots (net_of P.behaviour circuit.now) knots.now }
-    requires ends { AreEnds (net_of P.behaviour circuit.now) ends.now }
-    requires turn { 1 ≤ turn }
-    requires budget { budget < 10 ^ 18 }
-    requires kept { IsKept (net_of P.behaviour circuit.now) knots.now turn kept.old }
-    requires lookups { AreLookups
-        (net_of P.behaviour circuit.now) knots.now kept.old lookups.old }
+    requires planning { IsPlanning (net_in P.behaviour planning.now) planning.now }
+    requires turn { 1 ≤ planning.now.turn }
+    requires kept { let knots = planning.now.knots.now in
+        IsKept (net_in P.behaviour planning.now) knots planning.now.turn kept.old }
+    requires lookups { let knots = planning.now.knots.now in
+        AreLookups (net_in P.behaviour planning.now) knots kept.old lookups.old }
     requires list { MayBeRows kept.old.rows list.old }
-    ensures kept { IsKept (net_of P.behaviour circuit.now) knots.now turn kept.new }
-    ensures lookups { AreLookups
-        (net_of P.behaviour circuit.now) knots.now kept.new lookups.new }
-    ensures exact { let net = net_of P.behaviour circuit.now in
-        MatchResult result (λ _. AllServe (knot_count knots.now) budget kept.new)
-        (IsPlanFault budget net) }
+    ensures kept { let knots = planning.now.knots.now in
+        IsKept (net_in P.behaviour planning.now) knots planning.now.turn kept.new }
+    ensures lookups { let knots = planning.now.knots.now in
+        AreLookups (net_in P.behaviour planning.now) knots kept.new lookups.new }
+    ensures exact { let count = knot_count planning.now.knots.now in
+        let budget = planning.now.budget in
+        MatchResult result (λ _. AllServe count budget kept.new)
+        (IsPlanFault budget (net_in P.behaviour planning.now)) }
     ensures before { IfOk result (λ before. before ≡ kept.old.rows) }
     ensures list { list.new ≡ None }
     ensures told { OnOk result (lookups.new.told ≡ true) }
     ensures refused { OnErr result (kept.new ≡ kept.old) }
-    ensures ticks { let count = knot_count knots.now in (weights : ℕ → ℕ)
-        → AreWeights (net_of P.behaviour circuit.now) knots.now weights
-        → steps.new ≤ steps.old + sum_below count (weight_left kept.old budget weights) }
+    ensures ticks { let knots = planning.now.knots.now in let budget = planning.now.budget in
+        (weights : ℕ → ℕ) → AreWeights (net_in P.behaviour planning.now) knots weights
+        → steps.new ≤ steps.old
+        + sum_below (knot_count knots) (weight_left kept.old budget weights) }
 {
-    circuit.known();
+    planning.circuit.known();
     let over = take_rows(alloc, list, kept.rows())?;
-    if kept.all_serve(budget) && lookups.is_told() {
+    if kept.all_serve(planning.budget) && lookups.is_told() {
         return Ok(over);
     }
-    let rows = lookups.find_rows(alloc, circuit, knots, ends, kept, turn, budget, steps, over)?;
-    Ok(kept.store(circuit, knots, lookups.flowing(), rows, budget))
+    let rows = lookups.find_rows(alloc, planning, kept, steps, over)?;
+    let flowing = lookups.flowing();
+    Ok(kept.store(
+        planning.circuit,
+        planning.knots,
+        flowing,
+        rows,
+        planning.budget,
+    ))
 }
 
 /// Has all parts settled for the round of a number, and the joints told that flow in them, and
@@ -81,49 +82,54 @@ fn renew<P: Primitive, L: Ledger>(
 /// As for `renew`.
 pub(crate) fn renew_marked<P: Primitive, L: Ledger>(
     alloc: Global,
-    circuit: &Circuit<P>,
-    knots: &Knots,
-    ends: &Ends,
+    planning: &Planning<'_, P>,
     kept: &mut Kept,
     lookups: &mut Lookups,
     flows: &mut Flows,
-    turn: u64,
-    budget: u64,
     steps: &mut Steps<L>,
 ) -> Result<(), Exceeds>
-    requires knots { AreKnots (net_of P.behaviour circuit.now) knots.now }
-    requires ends { AreEnds (net_of P.behaviour circuit.now) ends.now }
-    requires turn { 1 ≤ turn }
-    requires budget { budget < 10 ^ 18 }
-    requires kept { IsKept (net_of P.behaviour circuit.now) knots.now turn kept.old }
-    requires lookups { AreLookups
-        (net_of P.behaviour circuit.now) knots.now kept.old lookups.old }
-    requires flows { AreFlows (net_of P.behaviour circuit.now) knots.now kept.old flows.old }
-    ensures kept { IsKept (net_of P.behaviour circuit.now) knots.now turn kept.new }
-    ensures lookups { AreLookups
-        (net_of P.behaviour circuit.now) knots.now kept.new lookups.new }
-    ensures flows { AreFlows (net_of P.behaviour circuit.now) knots.now kept.new flows.new }
-    ensures exact { let net = net_of P.behaviour circuit.now in
-        MatchResult result (λ _. AreRenewed budget net knots.now turn kept.new)
+    requires planning { IsPlanning (net_in P.behaviour planning.now) planning.now }
+    requires turn { 1 ≤ planning.now.turn }
+    requires kept { let knots = planning.now.knots.now in
+        IsKept (net_in P.behaviour planning.now) knots planning.now.turn kept.old }
+    requires lookups { let knots = planning.now.knots.now in
+        AreLookups (net_in P.behaviour planning.now) knots kept.old lookups.old }
+    requires flows { let knots = planning.now.knots.now in
+        AreFlows (net_in P.behaviour planning.now) knots kept.old flows.old }
+    ensures kept { let knots = planning.now.knots.now in
+        IsKept (net_in P.behaviour planning.now) knots planning.now.turn kept.new }
+    ensures lookups { let knots = planning.now.knots.now in
+        AreLookups (net_in P.behaviour planning.now) knots kept.new lookups.new }
+    ensures flows { let knots = planning.now.knots.now in
+        AreFlows (net_in P.behaviour planning.now) knots kept.new flows.new }
+    ensures exact { let net = net_in P.behaviour planning.now in
+        let knots = planning.now.knots.now in let budget = planning.now.budget in
+        MatchResult result (λ _. AreRenewed budget net knots planning.now.turn kept.new)
         (IsPlanFault budget net) }
     ensures told { OnOk result (lookups.new.told ≡ true) }
-    ensures shown { let net = net_of P.behaviour circuit.now in
+    ensures shown { let net = net_in P.behaviour planning.now in
         OnOk result (AreShown net kept.new.rows flows.new.cells) }
-    ensures ticks { let count = knot_count knots.now in (weights : ℕ → ℕ)
-        → AreWeights (net_of P.behaviour circuit.now) knots.now weights
-        → steps.new ≤ steps.old + sum_below count (weight_left kept.old budget weights) }
+    ensures ticks { let knots = planning.now.knots.now in let budget = planning.now.budget in
+        (weights : ℕ → ℕ) → AreWeights (net_in P.behaviour planning.now) knots weights
+        → steps.new ≤ steps.old
+        + sum_below (knot_count knots) (weight_left kept.old budget weights) }
 {
-    circuit.known();
-    let _order = circuit.order();
+    planning.circuit.known();
+    let _order = planning.circuit.order();
     flag_shown(kept, flows.shown, &mut flows.shown_parts);
     flows.shown = false;
     let list = &mut flows.rows;
-    let mut older = renew(
-        alloc, circuit, knots, ends, kept, lookups, turn, budget, steps, list,
-    )?;
+    let mut older = renew(alloc, planning, kept, lookups, steps, list)?;
     let shown = &flows.shown_parts;
     let cells = &mut flows.cells;
-    show_rest(circuit, knots, kept.rows(), shown, cells, &mut older);
+    show_rest(
+        planning.circuit,
+        planning.knots,
+        kept.rows(),
+        shown,
+        cells,
+        &mut older,
+    );
     flows.rows = Some(older);
     flows.shown = true;
     Ok(())

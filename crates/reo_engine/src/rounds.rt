@@ -16,7 +16,7 @@ use crate::engine::Engine;
 use crate::planning::suits;
 use reo_net_base::Ported;
 use reo_rounds::{Done, Exceeds, Plan, plan_with};
-use reo_settling::first_colouring;
+use reo_settling::{Planning, first_colouring};
 use reo_steps::Steps;
 use std::alloc::Global;
 use std::sync::ledger::Ledger;
@@ -54,16 +54,14 @@ impl<P: Ported> Engine<P> {
             → steps.new ≡ steps.old }
     {
         self.circuit.known();
-        let colouring = first_colouring(
-            alloc,
-            &self.circuit,
-            &self.knots,
-            &self.ends,
-            &self.kept,
-            self.rounds + 1,
+        let planning = Planning {
+            circuit: &self.circuit,
+            knots: &self.knots,
+            ends: &self.ends,
+            turn: self.rounds + 1,
             budget,
-            steps,
-        )?;
+        };
+        let colouring = first_colouring(alloc, &planning, &self.kept, steps)?;
         Ok(plan_with(alloc, &self.circuit, colouring)?)
     }
 

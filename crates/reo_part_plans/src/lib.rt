@@ -12,4 +12,6 @@ pub use entry::RememberedRows;
 pub use laws::{alike_same_rows, plans_stay};
 pub use looks::Look;
 pub use plans::Remembered;
-pub use reo_planning::{Kept, first_colouring, search_part, tables_of, written_over};
+pub use reo_planning::{
+    Kept, PartOf, Planning, first_colouring, search_part, tables_of, written_over,
+};

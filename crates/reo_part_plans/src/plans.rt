@@ -2,11 +2,10 @@
 ghost use Rattle.std.specs.Prelude.{◌≡◌, ◌<◌, ◌≤◌, ◌++◌, ◌∷◌, ℕ, true, false, [], Ok, IfOk, OnErr, OnOk, IfSome, length, slice_index, slice_index_or};
 ghost use Rattle.reo_net_base.specs.Net.{net_of};
 ghost use Rattle.reo_net_base.specs.Sides.{side_count};
-ghost use Rattle.reo_net_laws.specs.Knots.{AreKnots, in_knot, knot_count};
 ghost use Rattle.reo_flows.specs.flowing.Flowing.{AreFlowingOf};
 ghost use Rattle.reo_item_bounds.specs.Bounds.{HasBounds};
 ghost use Rattle.reo_weights.specs.still.Joining.{HasFirst};
-ghost use Rattle.reo_planning.specs.Planned.{IsPartPlanned};
+ghost use Rattle.reo_planning.specs.PartOf.{IsPartOf, IsPlannedAt, in_part, net_at, net_in};
 ghost use Rattle.reo_part_plans.specs.Remembered.{AreNew, AreAllRemembered, IsFoundAt, IsRecalled, StayOrGo};
 
 use crate::entry::{RememberedRows, rows_at, with_room};
@@ -14,9 +13,9 @@ use crate::given::{are_given, deciding};
 use crate::looks::{Look, is_key, look_at_all};
 use crate::searching::find;
 use reo_flows::copy_over;
-use reo_knots::Knots;
 use reo_net_base::Primitive;
 use reo_net_circuit::Circuit;
+use reo_planning::{PartOf, Planning};
 use reo_values::{List, NoMemory};
 use std::alloc::Global;
 use std::marker::Model;
@@ -198,30 +197,30 @@ impl RememberedPart {
     /// allows. The answer is whether it was done. `NoMemory` is out of memory.
     fn recall<P: Primitive>(
         &mut self,
-        circuit: &Circuit<P>,
+        planning: &Planning<'_, P>,
         sides: &[usize],
-        turn: u64,
-        budget: u64,
         key: &mut List<Look>,
         rows: &mut List<u32>,
         flowing: &mut List<usize>,
     ) -> Result<bool, NoMemory>
         requires sides { (m : ℕ) → m < length sides.now
-            → slice_index sides.now m < side_count (net_of P.behaviour circuit.now) }
-        requires turn { 1 ≤ turn }
-        requires rows { length rows.old ≡ side_count (net_of P.behaviour circuit.now) }
+            → slice_index sides.now m < side_count (net_in P.behaviour planning.now) }
+        requires turn { 1 ≤ planning.now.turn }
+        requires rows { length rows.old ≡ side_count (net_in P.behaviour planning.now) }
         ensures entries { StayOrGo self.old.entries self.new.entries }
         ensures same { result ≡ Ok false → rows.new ≡ rows.old }
-        ensures found { result ≡ Ok true → IsRecalled (net_of P.behaviour circuit.now) sides.now
-            turn budget self.old.entries rows.old rows.new flowing.new }
+        ensures found { result ≡ Ok true → IsRecalled (net_in P.behaviour planning.now) sides.now
+            planning.now.turn planning.now.budget self.old.entries
+            rows.old rows.new flowing.new }
     {
-        let Some(place) = self.place_of(circuit, sides, turn, key)? else {
+        let place = self.place_of(planning.circuit, sides, planning.turn, key)?;
+        let Some(place) = place else {
             self.miss();
             return Ok(false);
         };
         self.follow(place);
         let entry = self.entries.at(place);
-        if !entry.serves(sides, budget) {
+        if !entry.serves(sides, planning.budget) {
             self.miss();
             return Ok(false);
         }
@@ -255,33 +254,29 @@ impl Remembered {
     /// `NoMemory` is out of memory.
     pub fn recall<P: Primitive>(
         &mut self,
-        circuit: &Circuit<P>,
-        knots: &Knots,
-        part: usize,
-        turn: u64,
-        budget: u64,
+        part: &PartOf<'_, P>,
         rows: &mut List<u32>,
         flowing: &mut List<usize>,
     ) -> Result<bool, NoMemory>
-        requires knots { AreKnots (net_of P.behaviour circuit.now) knots.now }
-        requires part { part < knot_count knots.now }
-        requires turn { 1 ≤ turn }
-        requires plans { AreAllRemembered (net_of P.behaviour circuit.now) knots.now self.old }
-        requires rows { length rows.old ≡ side_count (net_of P.behaviour circuit.now) }
-        ensures plans { AreAllRemembered (net_of P.behaviour circuit.now) knots.now self.new }
-        ensures recalled { let net = net_of P.behaviour circuit.now in
-            result ≡ Ok true → IsPartPlanned budget net knots.now turn part rows.old rows.new }
-        ensures flowing { let net = net_of P.behaviour circuit.now in
-            let inside = in_knot knots.now.numbers part in
-            result ≡ Ok true → AreFlowingOf net inside rows.new flowing.new }
+        requires part { IsPartOf (net_at P.behaviour part.now) part.now }
+        requires turn { 1 ≤ part.now.planning.now.turn }
+        requires plans { let knots = part.now.planning.now.knots.now in
+            AreAllRemembered (net_at P.behaviour part.now) knots self.old }
+        requires rows { length rows.old ≡ side_count (net_at P.behaviour part.now) }
+        ensures plans { let knots = part.now.planning.now.knots.now in
+            AreAllRemembered (net_at P.behaviour part.now) knots self.new }
+        ensures recalled { let net = net_at P.behaviour part.now in
+            result ≡ Ok true → IsPlannedAt net part.now rows.old rows.new }
+        ensures flowing { let net = net_at P.behaviour part.now in
+            result ≡ Ok true → AreFlowingOf net (in_part part.now) rows.new flowing.new }
         ensures same { result ≡ Ok false → rows.new ≡ rows.old }
     {
-        circuit.known();
-        let _order = circuit.order();
-        let sides = knots.sides(part);
+        part.planning.circuit.known();
+        let _order = part.planning.circuit.order();
+        let sides = part.planning.knots.sides(part.number);
         let key = &mut self.key;
-        let plans = self.parts.at_mut(part);
-        plans.recall(circuit, sides, turn, budget, key, rows, flowing)
+        let plans = self.parts.at_mut(part.number);
+        plans.recall(part.planning, sides, key, rows, flowing)
     }
 
     /// Remembers the rows of the first assignment of a part for each round in which the part is in
@@ -296,40 +291,39 @@ impl Remembered {
     pub fn remember<P: Primitive>(
         &mut self,
         alloc: Global,
-        circuit: &Circuit<P>,
-        knots: &Knots,
-        part: usize,
-        turn: u64,
+        part: &PartOf<'_, P>,
         choices: u64,
         rows: &[u32],
         flowing: &[usize],
     ) -> Result<(), NoMemory>
-        requires knots { AreKnots (net_of P.behaviour circuit.now) knots.now }
-        requires part { part < knot_count knots.now }
-        requires turn { 1 ≤ turn }
-        requires choices { HasBounds
-            (net_of P.behaviour circuit.now) (in_knot knots.now.numbers part) choices }
-        requires plans { AreAllRemembered (net_of P.behaviour circuit.now) knots.now self.old }
-        requires one_row { length rows.now ≡ side_count (net_of P.behaviour circuit.now) }
-        requires first { HasFirst
-            (net_of P.behaviour circuit.now) knots.now.numbers turn rows.now part }
-        requires flowing { AreFlowingOf (net_of P.behaviour circuit.now)
-            (in_knot knots.now.numbers part) rows.now flowing.now }
-        ensures plans { AreAllRemembered (net_of P.behaviour circuit.now) knots.now self.new }
+        requires part { IsPartOf (net_at P.behaviour part.now) part.now }
+        requires turn { 1 ≤ part.now.planning.now.turn }
+        requires choices { HasBounds (net_at P.behaviour part.now) (in_part part.now) choices }
+        requires plans { let knots = part.now.planning.now.knots.now in
+            AreAllRemembered (net_at P.behaviour part.now) knots self.old }
+        requires one_row { length rows.now ≡ side_count (net_at P.behaviour part.now) }
+        requires first { let planning = part.now.planning.now in
+            HasFirst (net_at P.behaviour part.now)
+            planning.knots.now.numbers planning.turn rows.now part.now.number }
+        requires flowing { AreFlowingOf (net_at P.behaviour part.now)
+            (in_part part.now) rows.now flowing.now }
+        ensures plans { let knots = part.now.planning.now.knots.now in
+            AreAllRemembered (net_at P.behaviour part.now) knots self.new }
     {
-        circuit.known();
-        let sides = knots.sides(part);
-        if self.parts.at(part).is_resting() {
+        let planning = part.planning;
+        planning.circuit.known();
+        let sides = planning.knots.sides(part.number);
+        if self.parts.at(part.number).is_resting() {
             return Ok(());
         }
-        let Some(items) = deciding(alloc, circuit, sides)? else {
-            self.parts.at_mut(part).rest();
+        let Some(items) = deciding(alloc, planning.circuit, sides)? else {
+            self.parts.at_mut(part.number).rest();
             return Ok(());
         };
         let size = sides.len().saturating_add(items.len());
         let mut key = with_room(alloc, sides.len())?;
-        if !look_at_all(circuit, sides, turn, &mut key)? {
-            self.parts.at_mut(part).rest();
+        if !look_at_all(planning.circuit, sides, planning.turn, &mut key)? {
+            self.parts.at_mut(part.number).rest();
             return Ok(());
         }
         let rows = rows_at(alloc, sides, rows)?;
@@ -342,7 +336,7 @@ impl Remembered {
             flowing: joints,
             choices,
         };
-        let plans = self.parts.at_mut(part);
+        let plans = self.parts.at_mut(part.number);
         plans.make_room(size);
         plans.add(entry)
     }

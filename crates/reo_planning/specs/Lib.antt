@@ -4,3 +4,4 @@ pub mod Planned
 pub mod Faults
 pub mod Marked
 pub mod Unsettling
+pub mod PartOf

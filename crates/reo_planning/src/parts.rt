@@ -1,19 +1,15 @@
 //! The rows of the first assignment of one part.
-ghost use Rattle.std.specs.Prelude.{◌≡◌, ◌<◌, ◌≤◌, ◌+◌, ◌^◌, ℕ, true, cond, MatchResult, OnOk, length, slice_index};
-ghost use Rattle.reo_net_base.specs.Net.{net_of};
+ghost use Rattle.std.specs.Prelude.{◌≡◌, ◌≤◌, ◌+◌, ℕ, true, cond, MatchResult, OnOk, length, slice_index};
 ghost use Rattle.reo_net_base.specs.Sides.{side_count};
-ghost use Rattle.reo_net_laws.specs.Knots.{AreKnots, in_knot, knot_count};
 ghost use Rattle.reo_weights.specs.Weights.{IsWeight};
 ghost use Rattle.reo_search_tables.specs.SearchTables.{AreReady};
-ghost use Rattle.reo_planning.specs.Faults.{IsSearchFault};
 ghost use Rattle.reo_planning.specs.Keeping.{IsKept, serves};
-ghost use Rattle.reo_planning.specs.Planned.{IsPartPlanned};
+ghost use Rattle.reo_planning.specs.PartOf.{IsFaultAt, IsPartOf, IsPlannedAt, in_part, net_at};
 
 use crate::kept::Kept;
+use crate::part_of::PartOf;
 use crate::rows::put_rows;
-use reo_knots::Knots;
 use reo_net_base::Primitive;
-use reo_net_circuit::{Circuit, Ends};
 use reo_rounds::Exceeds;
 use reo_search::first_with;
 use reo_search_tables::SearchTables;
@@ -30,43 +26,38 @@ use std::sync::ledger::Ledger;
 /// `Wide` and `Spent` come exactly where the part is over. `NoMemory` is out of memory.
 pub fn search_part<P: Primitive, L: Ledger>(
     alloc: Global,
-    circuit: &Circuit<P>,
-    knots: &Knots,
-    ends: &Ends,
+    part: &PartOf<'_, P>,
     tables: &mut SearchTables,
-    knot: usize,
-    turn: u64,
-    budget: u64,
     steps: &mut Steps<L>,
     rows: &mut List<u32>,
 ) -> Result<(), Exceeds>
-    requires knots { AreKnots (net_of P.behaviour circuit.now) knots.now }
-    requires knot { knot < knot_count knots.now }
-    requires tables { AreReady (net_of P.behaviour circuit.now) ends.now tables.old }
-    requires budget { budget < 10 ^ 18 }
-    requires rows { length rows.old ≡ side_count (net_of P.behaviour circuit.now) }
-    ensures exact { let net = net_of P.behaviour circuit.now in
-        MatchResult result (λ _. IsPartPlanned budget net knots.now turn knot rows.old rows.new)
-        (IsSearchFault budget net (in_knot knots.now.numbers knot) knot) }
-    ensures tables { OnOk result (AreReady (net_of P.behaviour circuit.now) ends.now tables.new) }
-    ensures ticks { let net = net_of P.behaviour circuit.now in
-        (w : ℕ) → IsWeight net (in_knot knots.now.numbers knot) w → steps.new ≤ steps.old + w }
+    requires part { IsPartOf (net_at P.behaviour part.now) part.now }
+    requires tables { let ends = part.now.planning.now.ends.now in
+        AreReady (net_at P.behaviour part.now) ends tables.old }
+    requires rows { length rows.old ≡ side_count (net_at P.behaviour part.now) }
+    ensures exact { let net = net_at P.behaviour part.now in
+        MatchResult result (λ _. IsPlannedAt net part.now rows.old rows.new)
+        (IsFaultAt net part.now) }
+    ensures tables { let ends = part.now.planning.now.ends.now in
+        OnOk result (AreReady (net_at P.behaviour part.now) ends tables.new) }
+    ensures ticks { let net = net_at P.behaviour part.now in
+        (w : ℕ) → IsWeight net (in_part part.now) w → steps.new ≤ steps.old + w }
 {
     match first_with(
         alloc,
-        circuit,
-        knots,
+        part.planning.circuit,
+        part.planning.knots,
         &tables.boards,
-        ends,
+        part.planning.ends,
         &tables.supply,
         &mut tables.state,
-        knot,
-        turn,
-        budget,
+        part.number,
+        part.planning.turn,
+        part.planning.budget,
         steps,
     ) {
-        Ok(part) => {
-            put_rows(rows, part.sides.as_slice(), part.rows.as_slice());
+        Ok(found) => {
+            put_rows(rows, found.sides.as_slice(), found.rows.as_slice());
             Ok(())
         }
         Err(fault) => Err(fault),
@@ -77,38 +68,33 @@ pub fn search_part<P: Primitive, L: Ledger>(
 /// where they serve, and else the part is searched.
 pub(crate) fn plan_part<P: Primitive, L: Ledger>(
     alloc: Global,
-    circuit: &Circuit<P>,
-    knots: &Knots,
-    ends: &Ends,
+    part: &PartOf<'_, P>,
     kept: &Kept,
     tables: &mut SearchTables,
-    knot: usize,
-    turn: u64,
-    budget: u64,
     steps: &mut Steps<L>,
     rows: &mut List<u32>,
 ) -> Result<(), Exceeds>
-    requires knots { AreKnots (net_of P.behaviour circuit.now) knots.now }
-    requires knot { knot < knot_count knots.now }
-    requires kept { IsKept (net_of P.behaviour circuit.now) knots.now turn kept.now }
-    requires tables { AreReady (net_of P.behaviour circuit.now) ends.now tables.old }
-    requires budget { budget < 10 ^ 18 }
-    requires rows { length rows.old ≡ side_count (net_of P.behaviour circuit.now) }
-    requires here { (s : ℕ) → in_knot knots.now.numbers knot s ≡ true
+    requires part { IsPartOf (net_at P.behaviour part.now) part.now }
+    requires kept { let planning = part.now.planning.now in
+        IsKept (net_at P.behaviour part.now) planning.knots.now planning.turn kept.now }
+    requires tables { let ends = part.now.planning.now.ends.now in
+        AreReady (net_at P.behaviour part.now) ends tables.old }
+    requires rows { length rows.old ≡ side_count (net_at P.behaviour part.now) }
+    requires here { (s : ℕ) → in_part part.now s ≡ true
         → slice_index rows.old s ≡ slice_index kept.now.rows s }
-    ensures exact { let net = net_of P.behaviour circuit.now in
-        MatchResult result (λ _. IsPartPlanned budget net knots.now turn knot rows.old rows.new)
-        (IsSearchFault budget net (in_knot knots.now.numbers knot) knot) }
-    ensures tables { OnOk result (AreReady (net_of P.behaviour circuit.now) ends.now tables.new) }
-    ensures ticks { let net = net_of P.behaviour circuit.now in
-        (w : ℕ) → IsWeight net (in_knot knots.now.numbers knot) w
-        → steps.new ≤ steps.old + cond (serves kept.now budget knot) 0 w }
-    ensures none { serves kept.now budget knot ≡ true → steps.new ≡ steps.old }
+    ensures exact { let net = net_at P.behaviour part.now in
+        MatchResult result (λ _. IsPlannedAt net part.now rows.old rows.new)
+        (IsFaultAt net part.now) }
+    ensures tables { let ends = part.now.planning.now.ends.now in
+        OnOk result (AreReady (net_at P.behaviour part.now) ends tables.new) }
+    ensures ticks { let planning = part.now.planning.now in
+        (w : ℕ) → IsWeight (net_at P.behaviour part.now) (in_part part.now) w
+        → steps.new ≤ steps.old + cond (serves kept.now planning.budget part.now.number) 0 w }
+    ensures none { serves kept.now part.now.planning.now.budget part.now.number ≡ true
+        → steps.new ≡ steps.old }
 {
-    if kept.serves(knot, budget) {
+    if kept.serves(part.number, part.planning.budget) {
         return Ok(());
     }
-    search_part(
-        alloc, circuit, knots, ends, tables, knot, turn, budget, steps, rows,
-    )
+    search_part(alloc, part, tables, steps, rows)
 }

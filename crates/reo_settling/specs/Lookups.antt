@@ -1,12 +1,12 @@
 -- What is looked up when parts are settled.
-use Rattle.std.specs.Prelude.{ℕ, ◌<◌, ◌≤◌, ◌≡◌, ◌≢◌, Bool, true, [], length, slice_index_or}
+use Rattle.std.specs.Prelude.{ℕ, ◌<◌, ◌≤◌, ◌≡◌, ◌≢◌, Bool, true, List, [], length, slice_index_or}
 use Rattle.reo_net_base.specs.Net.{Net}
 use Rattle.reo_net_base.specs.Shapes.{TreatAlike}
 use Rattle.reo_net_base.specs.Wired.{IsWired}
 use Rattle.reo_net_laws.specs.Knots.{Knotted, AreKnots, knot_count}
 use Rattle.reo_search_tables.specs.Orders.{AreOrders}
-use Rattle.reo_flows.specs.flowing.Flowing.{AreFlowingIn}
-use Rattle.reo_part_plans.specs.Plannings.{Kept, AreFewer, IsElsewhere, is_settled, serves}
+use Rattle.reo_flows.specs.flowing.Flowing.{AreFlowingIn, AreFlowingOf}
+use Rattle.reo_part_plans.specs.Plannings.{Kept, AreFewer, IsElsewhere, PartOf, in_part, is_settled, serves}
 use Rattle.reo_mark_search.specs.MarkFinding.{IsMarkSearch}
 use Rattle.reo_item_bounds.specs.Kept.{AreKeptBounds}
 use Rattle.reo_part_plans.specs.Remembered.{AreAllRemembered}
@@ -39,6 +39,15 @@ pub record AreSteady (net : Net) (knots : Knotted) (lookups : Lookups) : Type 0 
   pub bounds : AreKeptBounds net lookups.bounds
   pub plans : AreAllRemembered net knots lookups.plans
   pub marks : IsMarkSearch net lookups.marks
+
+-- The same, for the circuit of a part.
+abbrev pub AreSteadyFor : {P : Type 0} → Net → PartOf P → Lookups → Type 0
+AreSteadyFor net part lookups = AreSteady net part.planning.now.knots.now lookups
+
+-- The joints that are listed for a part are those that flow in it by some rows.
+abbrev pub AreFlowingAt : {P : Type 0} → Net → PartOf P → List ℕ → Lookups → Type 0
+AreFlowingAt net part rows lookups =
+    AreFlowingOf net (in_part part) rows (slice_index_or lookups.flowing part.number [])
 
 -- What is looked up stays right where a circuit changes at no primitive of a part that is still settled, and nothing
 -- changes in what is done with items.

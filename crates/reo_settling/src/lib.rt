@@ -6,7 +6,8 @@ mod lookups;
 mod parts;
 mod renewing;
 mod settling;
+mod standing;
 
 pub use laws::lookups_stay;
 pub use lookups::Lookups;
-pub use reo_part_plans::{Kept, first_colouring, written_over};
+pub use reo_part_plans::{Kept, Planning, first_colouring, written_over};

@@ -1,25 +1,21 @@
 //! The rows of one part.
-ghost use Rattle.std.specs.Prelude.{◌≡◌, ◌<◌, ◌≤◌, ◌+◌, ◌^◌, ℕ, true, [], cond, IfOk, IfSome, IsTrue, MatchResult, OnOk, length, slice_index, slice_index_or};
-ghost use Rattle.reo_net_base.specs.Net.{net_of};
+ghost use Rattle.std.specs.Prelude.{◌≡◌, ◌≤◌, ◌+◌, ℕ, true, cond, IfOk, IfSome, IsTrue, MatchResult, OnOk, length, slice_index};
 ghost use Rattle.reo_net_base.specs.Sides.{side_count};
-ghost use Rattle.reo_net_circuit.specs.found_ends.Ends.{AreEnds};
-ghost use Rattle.reo_net_laws.specs.Knots.{AreKnots, in_knot, knot_count};
 ghost use Rattle.reo_weights.specs.Weights.{IsWeight};
 ghost use Rattle.reo_mark_search.specs.MarkFinding.{AreRowsElsewhere, HasFirstRows};
 ghost use Rattle.reo_item_bounds.specs.Bounds.{HasBounds};
-ghost use Rattle.reo_part_plans.specs.Plannings.{IsSearchFault, IsKept, is_settled, serves, IsPartPlanned};
+ghost use Rattle.reo_part_plans.specs.Plannings.{IsFaultAt, IsKept, IsPartOf, IsPlannedAt, in_part, is_settled, net_at, serves};
 ghost use Rattle.reo_weights.specs.still.Joining.{HasFirst};
-ghost use Rattle.reo_flows.specs.flowing.Flowing.{AreFlowingOf, AreRowsIn};
-ghost use Rattle.reo_settling.specs.Lookups.{AreListed, AreSteady, IsListedAt};
+ghost use Rattle.reo_flows.specs.flowing.Flowing.{AreRowsIn};
+ghost use Rattle.reo_settling.specs.Lookups.{AreFlowingAt, AreListed, AreSteadyFor, IsListedAt};
 
 use crate::lookups::Lookups;
 use crate::renewing::renewed;
+use crate::standing::Standing;
 use reo_flows::put_flowing;
-use reo_knots::Knots;
 use reo_mark_search::MarkFinding;
 use reo_net_base::Primitive;
-use reo_net_circuit::{Circuit, Ends};
-use reo_part_plans::{Kept, search_part};
+use reo_part_plans::{PartOf, search_part};
 use reo_rounds::Exceeds;
 use reo_steps::Steps;
 use reo_values::{List, NoMemory};
@@ -32,36 +28,25 @@ impl Lookups {
     fn search_by_values<P: Primitive, L: Ledger>(
         &mut self,
         alloc: Global,
-        circuit: &Circuit<P>,
-        knots: &Knots,
-        ends: &Ends,
-        part: usize,
-        turn: u64,
-        budget: u64,
+        part: &PartOf<'_, P>,
         steps: &mut Steps<L>,
         rows: &mut List<u32>,
     ) -> Result<(), Exceeds>
-        requires knots { AreKnots (net_of P.behaviour circuit.now) knots.now }
-        requires ends { AreEnds (net_of P.behaviour circuit.now) ends.now }
-        requires part { part < knot_count knots.now }
-        requires budget { budget < 10 ^ 18 }
-        requires steady { AreSteady (net_of P.behaviour circuit.now) knots.now self.old }
-        requires rows { length rows.old ≡ side_count (net_of P.behaviour circuit.now) }
-        ensures steady { AreSteady (net_of P.behaviour circuit.now) knots.now self.new }
+        requires part { IsPartOf (net_at P.behaviour part.now) part.now }
+        requires steady { AreSteadyFor (net_at P.behaviour part.now) part.now self.old }
+        requires rows { length rows.old ≡ side_count (net_at P.behaviour part.now) }
+        ensures steady { AreSteadyFor (net_at P.behaviour part.now) part.now self.new }
         ensures listed { AreListed self.old self.new }
-        ensures exact { let net = net_of P.behaviour circuit.now in
-            MatchResult result (λ _. IsPartPlanned budget net knots.now turn part rows.old rows.new)
-            (IsSearchFault budget net (in_knot knots.now.numbers part) part) }
-        ensures ticks { let net = net_of P.behaviour circuit.now in
-            (w : ℕ) → IsWeight net (in_knot knots.now.numbers part) w
-            → steps.new ≤ steps.old + w }
+        ensures exact { let net = net_at P.behaviour part.now in
+            MatchResult result (λ _. IsPlannedAt net part.now rows.old rows.new)
+            (IsFaultAt net part.now) }
+        ensures ticks { let net = net_at P.behaviour part.now in
+            (w : ℕ) → IsWeight net (in_part part.now) w → steps.new ≤ steps.old + w }
     {
         let tables = self.tables.take();
         let fresh = &self.fresh;
-        let mut ready = renewed(alloc, circuit, knots, ends, &self.orders, fresh, tables)?;
-        search_part(
-            alloc, circuit, knots, ends, &mut ready, part, turn, budget, steps, rows,
-        )?;
+        let mut ready = renewed(alloc, part.planning, &self.orders, fresh, tables)?;
+        search_part(alloc, part, &mut ready, steps, rows)?;
         self.fresh.set_all();
         self.tables = Some(ready);
         Ok(())
@@ -70,25 +55,24 @@ impl Lookups {
     /// Searches a part by marks, and writes the rows of its first assignment down. The answer is
     /// whether they were found; where they were not, the rows of the part are any. This takes no
     /// memory and makes no tick.
-    fn search_by_marks<P: Primitive>(
-        &mut self,
-        circuit: &Circuit<P>,
-        knots: &Knots,
-        part: usize,
-        turn: u64,
-        rows: &mut List<u32>,
-    ) -> bool
-        requires knots { AreKnots (net_of P.behaviour circuit.now) knots.now }
-        requires part { part < knot_count knots.now }
-        requires steady { AreSteady (net_of P.behaviour circuit.now) knots.now self.old }
-        requires rows { length rows.old ≡ side_count (net_of P.behaviour circuit.now) }
-        ensures steady { AreSteady (net_of P.behaviour circuit.now) knots.now self.new }
+    fn search_by_marks<P: Primitive>(&mut self, part: &PartOf<'_, P>, rows: &mut List<u32>) -> bool
+        requires part { IsPartOf (net_at P.behaviour part.now) part.now }
+        requires steady { AreSteadyFor (net_at P.behaviour part.now) part.now self.old }
+        requires rows { length rows.old ≡ side_count (net_at P.behaviour part.now) }
+        ensures steady { AreSteadyFor (net_at P.behaviour part.now) part.now self.new }
         ensures listed { AreListed self.old self.new }
-        ensures found { let inside = in_knot knots.now.numbers part in
-            IsTrue result → HasFirstRows (net_of P.behaviour circuit.now) inside turn rows.new }
-        ensures elsewhere { AreRowsElsewhere (in_knot knots.now.numbers part) rows.old rows.new }
+        ensures found { let turn = part.now.planning.now.turn in IsTrue result
+            → HasFirstRows (net_at P.behaviour part.now) (in_part part.now) turn rows.new }
+        ensures elsewhere { AreRowsElsewhere (in_part part.now) rows.old rows.new }
     {
-        match self.marks.search(circuit, knots, part, turn, rows) {
+        let planning = part.planning;
+        match self.marks.search(
+            planning.circuit,
+            planning.knots,
+            part.number,
+            planning.turn,
+            rows,
+        ) {
             MarkFinding::Rows => true,
             MarkFinding::Jam => true,
             MarkFinding::Unknown => false,
@@ -101,44 +85,32 @@ impl Lookups {
     fn search_bounded<P: Primitive, L: Ledger>(
         &mut self,
         alloc: Global,
-        circuit: &Circuit<P>,
-        knots: &Knots,
-        ends: &Ends,
-        part: usize,
-        turn: u64,
+        part: &PartOf<'_, P>,
         choices: u64,
-        budget: u64,
         steps: &mut Steps<L>,
         rows: &mut List<u32>,
     ) -> Result<(), Exceeds>
-        requires knots { AreKnots (net_of P.behaviour circuit.now) knots.now }
-        requires ends { AreEnds (net_of P.behaviour circuit.now) ends.now }
-        requires part { part < knot_count knots.now }
-        requires choices { HasBounds
-            (net_of P.behaviour circuit.now) (in_knot knots.now.numbers part) choices }
-        requires budget { budget < 10 ^ 18 }
-        requires steady { AreSteady (net_of P.behaviour circuit.now) knots.now self.old }
-        requires rows { length rows.old ≡ side_count (net_of P.behaviour circuit.now) }
-        ensures steady { AreSteady (net_of P.behaviour circuit.now) knots.now self.new }
+        requires part { IsPartOf (net_at P.behaviour part.now) part.now }
+        requires choices { HasBounds (net_at P.behaviour part.now) (in_part part.now) choices }
+        requires steady { AreSteadyFor (net_at P.behaviour part.now) part.now self.old }
+        requires rows { length rows.old ≡ side_count (net_at P.behaviour part.now) }
+        ensures steady { AreSteadyFor (net_at P.behaviour part.now) part.now self.new }
         ensures listed { AreListed self.old self.new }
-        ensures exact { let net = net_of P.behaviour circuit.now in
-            MatchResult result (λ _. IsPartPlanned budget net knots.now turn part rows.old rows.new)
-            (IsSearchFault budget net (in_knot knots.now.numbers part) part) }
-        ensures ticks { let net = net_of P.behaviour circuit.now in
-            (w : ℕ) → IsWeight net (in_knot knots.now.numbers part) w
-            → steps.new ≤ steps.old + w }
+        ensures exact { let net = net_at P.behaviour part.now in
+            MatchResult result (λ _. IsPlannedAt net part.now rows.old rows.new)
+            (IsFaultAt net part.now) }
+        ensures ticks { let net = net_at P.behaviour part.now in
+            (w : ℕ) → IsWeight net (in_part part.now) w → steps.new ≤ steps.old + w }
     {
-        circuit.known();
-        let _order = circuit.order();
-        if choices > budget {
-            return self.search_by_values(
-                alloc, circuit, knots, ends, part, turn, budget, steps, rows,
-            );
+        part.planning.circuit.known();
+        let _order = part.planning.circuit.order();
+        if choices > part.planning.budget {
+            return self.search_by_values(alloc, part, steps, rows);
         }
-        if self.search_by_marks(circuit, knots, part, turn, rows) {
+        if self.search_by_marks(part, rows) {
             return Ok(());
         }
-        self.search_by_values(alloc, circuit, knots, ends, part, turn, budget, steps, rows)
+        self.search_by_values(alloc, part, steps, rows)
     }
 
     /// Searches a part, and writes the rows of its first assignment down. The search is by marks
@@ -147,44 +119,37 @@ impl Lookups {
     fn search<P: Primitive, L: Ledger>(
         &mut self,
         alloc: Global,
-        circuit: &Circuit<P>,
-        knots: &Knots,
-        ends: &Ends,
-        part: usize,
-        turn: u64,
-        budget: u64,
+        part: &PartOf<'_, P>,
         steps: &mut Steps<L>,
         rows: &mut List<u32>,
     ) -> Result<Option<u64>, Exceeds>
-        requires knots { AreKnots (net_of P.behaviour circuit.now) knots.now }
-        requires ends { AreEnds (net_of P.behaviour circuit.now) ends.now }
-        requires part { part < knot_count knots.now }
-        requires budget { budget < 10 ^ 18 }
-        requires steady { AreSteady (net_of P.behaviour circuit.now) knots.now self.old }
-        requires rows { length rows.old ≡ side_count (net_of P.behaviour circuit.now) }
-        ensures steady { AreSteady (net_of P.behaviour circuit.now) knots.now self.new }
+        requires part { IsPartOf (net_at P.behaviour part.now) part.now }
+        requires steady { AreSteadyFor (net_at P.behaviour part.now) part.now self.old }
+        requires rows { length rows.old ≡ side_count (net_at P.behaviour part.now) }
+        ensures steady { AreSteadyFor (net_at P.behaviour part.now) part.now self.new }
         ensures listed { AreListed self.old self.new }
-        ensures bound { let net = net_of P.behaviour circuit.now in
-            IfOk result (λ found. IfSome found (HasBounds net (in_knot knots.now.numbers part))) }
-        ensures exact { let net = net_of P.behaviour circuit.now in
-            MatchResult result (λ _. IsPartPlanned budget net knots.now turn part rows.old rows.new)
-            (IsSearchFault budget net (in_knot knots.now.numbers part) part) }
-        ensures ticks { let net = net_of P.behaviour circuit.now in
-            (w : ℕ) → IsWeight net (in_knot knots.now.numbers part) w
-            → steps.new ≤ steps.old + w }
+        ensures bound { let net = net_at P.behaviour part.now in
+            IfOk result (λ found. IfSome found (HasBounds net (in_part part.now))) }
+        ensures exact { let net = net_at P.behaviour part.now in
+            MatchResult result (λ _. IsPlannedAt net part.now rows.old rows.new)
+            (IsFaultAt net part.now) }
+        ensures ticks { let net = net_at P.behaviour part.now in
+            (w : ℕ) → IsWeight net (in_part part.now) w → steps.new ≤ steps.old + w }
     {
-        circuit.known();
-        let joints = self.orders.at(part).as_slice();
-        let found = self
-            .bounds
-            .most_choices(circuit, ends, knots, part, joints, budget);
+        let planning = part.planning;
+        planning.circuit.known();
+        let joints = self.orders.at(part.number).as_slice();
+        let found = self.bounds.most_choices(
+            planning.circuit,
+            planning.ends,
+            planning.knots,
+            part.number,
+            joints,
+            planning.budget,
+        );
         match found {
-            None => self.search_by_values(
-                alloc, circuit, knots, ends, part, turn, budget, steps, rows,
-            )?,
-            Some(choices) => self.search_bounded(
-                alloc, circuit, knots, ends, part, turn, choices, budget, steps, rows,
-            )?,
+            None => self.search_by_values(alloc, part, steps, rows)?,
+            Some(choices) => self.search_bounded(alloc, part, choices, steps, rows)?,
         }
         Ok(found)
     }
@@ -193,27 +158,21 @@ impl Lookups {
     /// any. `NoMemory` is out of memory.
     fn list_flowing<P: Primitive>(
         &mut self,
-        circuit: &Circuit<P>,
-        knots: &Knots,
-        part: usize,
+        part: &PartOf<'_, P>,
         rows: &[u32],
     ) -> Result<(), NoMemory>
-        requires knots { AreKnots (net_of P.behaviour circuit.now) knots.now }
-        requires part { part < knot_count knots.now }
-        requires rows { AreRowsIn
-            (net_of P.behaviour circuit.now) (in_knot knots.now.numbers part) rows.now }
-        requires steady { AreSteady (net_of P.behaviour circuit.now) knots.now self.old }
-        ensures steady { AreSteady (net_of P.behaviour circuit.now) knots.now self.new }
-        ensures listed { IsListedAt part self.old self.new }
-        ensures flowing { let net = net_of P.behaviour circuit.now in
-            let inside = in_knot knots.now.numbers part in
-            let list = slice_index_or self.new.flowing part [] in
-            OnOk result (AreFlowingOf net inside rows.now list) }
+        requires part { IsPartOf (net_at P.behaviour part.now) part.now }
+        requires rows { AreRowsIn (net_at P.behaviour part.now) (in_part part.now) rows.now }
+        requires steady { AreSteadyFor (net_at P.behaviour part.now) part.now self.old }
+        ensures steady { AreSteadyFor (net_at P.behaviour part.now) part.now self.new }
+        ensures listed { IsListedAt part.now.number self.old self.new }
+        ensures flowing { let net = net_at P.behaviour part.now in
+            OnOk result (AreFlowingAt net part.now rows.now self.new) }
     {
-        let _ = knots;
-        circuit.known();
-        let joints = self.orders.at(part).as_slice();
-        put_flowing(circuit, rows, joints, self.flowing.at_mut(part))
+        part.planning.circuit.known();
+        let joints = self.orders.at(part.number).as_slice();
+        let list = self.flowing.at_mut(part.number);
+        put_flowing(part.planning.circuit, rows, joints, list)
     }
 
     /// Remembers the rows of a part with its joints that flow, where a bound of its weight is
@@ -221,34 +180,29 @@ impl Lookups {
     fn remember<P: Primitive>(
         &mut self,
         alloc: Global,
-        circuit: &Circuit<P>,
-        knots: &Knots,
-        part: usize,
-        turn: u64,
+        part: &PartOf<'_, P>,
         bound: Option<u64>,
         rows: &[u32],
     ) -> Result<(), NoMemory>
-        requires knots { AreKnots (net_of P.behaviour circuit.now) knots.now }
-        requires part { part < knot_count knots.now }
-        requires turn { 1 ≤ turn }
-        requires bound { let net = net_of P.behaviour circuit.now in
-            IfSome bound (HasBounds net (in_knot knots.now.numbers part)) }
-        requires steady { AreSteady (net_of P.behaviour circuit.now) knots.now self.old }
-        requires one_row { length rows.now ≡ side_count (net_of P.behaviour circuit.now) }
-        requires first { HasFirst
-            (net_of P.behaviour circuit.now) knots.now.numbers turn rows.now part }
-        requires flowing { let net = net_of P.behaviour circuit.now in
-            let inside = in_knot knots.now.numbers part in
-            AreFlowingOf net inside rows.now (slice_index_or self.old.flowing part []) }
-        ensures steady { AreSteady (net_of P.behaviour circuit.now) knots.now self.new }
+        requires part { IsPartOf (net_at P.behaviour part.now) part.now }
+        requires turn { 1 ≤ part.now.planning.now.turn }
+        requires bound { let net = net_at P.behaviour part.now in
+            IfSome bound (HasBounds net (in_part part.now)) }
+        requires steady { AreSteadyFor (net_at P.behaviour part.now) part.now self.old }
+        requires one_row { length rows.now ≡ side_count (net_at P.behaviour part.now) }
+        requires first { let planning = part.now.planning.now in
+            HasFirst (net_at P.behaviour part.now)
+            planning.knots.now.numbers planning.turn rows.now part.now.number }
+        requires flowing { let net = net_at P.behaviour part.now in
+            AreFlowingAt net part.now rows.now self.old }
+        ensures steady { AreSteadyFor (net_at P.behaviour part.now) part.now self.new }
         ensures listed { AreListed self.old self.new }
     {
         let Some(choices) = bound else {
             return Ok(());
         };
-        let joints = self.flowing.at(part).as_slice();
-        self.plans
-            .remember(alloc, circuit, knots, part, turn, choices, rows, joints)
+        let joints = self.flowing.at(part.number).as_slice();
+        self.plans.remember(alloc, part, choices, rows, joints)
     }
 
     /// Writes the rows of the first assignment of a part down, which are not remembered, and lists
@@ -256,71 +210,52 @@ impl Lookups {
     fn find<P: Primitive, L: Ledger>(
         &mut self,
         alloc: Global,
-        circuit: &Circuit<P>,
-        knots: &Knots,
-        ends: &Ends,
-        part: usize,
-        turn: u64,
-        budget: u64,
+        part: &PartOf<'_, P>,
         steps: &mut Steps<L>,
         rows: &mut List<u32>,
     ) -> Result<(), Exceeds>
-        requires knots { AreKnots (net_of P.behaviour circuit.now) knots.now }
-        requires ends { AreEnds (net_of P.behaviour circuit.now) ends.now }
-        requires part { part < knot_count knots.now }
-        requires turn { 1 ≤ turn }
-        requires budget { budget < 10 ^ 18 }
-        requires steady { AreSteady (net_of P.behaviour circuit.now) knots.now self.old }
-        requires rows { length rows.old ≡ side_count (net_of P.behaviour circuit.now) }
-        ensures steady { AreSteady (net_of P.behaviour circuit.now) knots.now self.new }
-        ensures listed { IsListedAt part self.old self.new }
-        ensures flowing { let net = net_of P.behaviour circuit.now in
-            let inside = in_knot knots.now.numbers part in
-            let list = slice_index_or self.new.flowing part [] in
-            OnOk result (AreFlowingOf net inside rows.new list) }
-        ensures exact { let net = net_of P.behaviour circuit.now in
-            MatchResult result (λ _. IsPartPlanned budget net knots.now turn part rows.old rows.new)
-            (IsSearchFault budget net (in_knot knots.now.numbers part) part) }
-        ensures ticks { let net = net_of P.behaviour circuit.now in
-            (w : ℕ) → IsWeight net (in_knot knots.now.numbers part) w
-            → steps.new ≤ steps.old + w }
+        requires part { IsPartOf (net_at P.behaviour part.now) part.now }
+        requires turn { 1 ≤ part.now.planning.now.turn }
+        requires steady { AreSteadyFor (net_at P.behaviour part.now) part.now self.old }
+        requires rows { length rows.old ≡ side_count (net_at P.behaviour part.now) }
+        ensures steady { AreSteadyFor (net_at P.behaviour part.now) part.now self.new }
+        ensures listed { IsListedAt part.now.number self.old self.new }
+        ensures flowing { let net = net_at P.behaviour part.now in
+            OnOk result (AreFlowingAt net part.now rows.new self.new) }
+        ensures exact { let net = net_at P.behaviour part.now in
+            MatchResult result (λ _. IsPlannedAt net part.now rows.old rows.new)
+            (IsFaultAt net part.now) }
+        ensures ticks { let net = net_at P.behaviour part.now in
+            (w : ℕ) → IsWeight net (in_part part.now) w → steps.new ≤ steps.old + w }
     {
-        let bound = self.search(alloc, circuit, knots, ends, part, turn, budget, steps, rows)?;
+        let bound = self.search(alloc, part, steps, rows)?;
         let rows = rows.as_slice();
-        self.list_flowing(circuit, knots, part, rows)?;
-        self.remember(alloc, circuit, knots, part, turn, bound, rows)?;
+        self.list_flowing(part, rows)?;
+        self.remember(alloc, part, bound, rows)?;
         Ok(())
     }
 
     /// Lists the joints of a part that flow by rows that are kept of it, where they are not told.
     fn list_served<P: Primitive>(
         &mut self,
-        circuit: &Circuit<P>,
-        knots: &Knots,
-        part: usize,
+        part: &PartOf<'_, P>,
         told: bool,
         rows: &[u32],
     ) -> Result<(), NoMemory>
-        requires knots { AreKnots (net_of P.behaviour circuit.now) knots.now }
-        requires part { part < knot_count knots.now }
-        requires rows { AreRowsIn
-            (net_of P.behaviour circuit.now) (in_knot knots.now.numbers part) rows.now }
-        requires steady { AreSteady (net_of P.behaviour circuit.now) knots.now self.old }
-        requires told { let net = net_of P.behaviour circuit.now in
-            let inside = in_knot knots.now.numbers part in
-            told ≡ true
-            → AreFlowingOf net inside rows.now (slice_index_or self.old.flowing part []) }
-        ensures steady { AreSteady (net_of P.behaviour circuit.now) knots.now self.new }
-        ensures listed { IsListedAt part self.old self.new }
-        ensures flowing { let net = net_of P.behaviour circuit.now in
-            let inside = in_knot knots.now.numbers part in
-            let list = slice_index_or self.new.flowing part [] in
-            OnOk result (AreFlowingOf net inside rows.now list) }
+        requires part { IsPartOf (net_at P.behaviour part.now) part.now }
+        requires rows { AreRowsIn (net_at P.behaviour part.now) (in_part part.now) rows.now }
+        requires steady { AreSteadyFor (net_at P.behaviour part.now) part.now self.old }
+        requires told { let net = net_at P.behaviour part.now in
+            told ≡ true → AreFlowingAt net part.now rows.now self.old }
+        ensures steady { AreSteadyFor (net_at P.behaviour part.now) part.now self.new }
+        ensures listed { IsListedAt part.now.number self.old self.new }
+        ensures flowing { let net = net_at P.behaviour part.now in
+            OnOk result (AreFlowingAt net part.now rows.now self.new) }
     {
         if told {
             return Ok(());
         }
-        self.list_flowing(circuit, knots, part, rows)
+        self.list_flowing(part, rows)
     }
 
     /// Writes the rows of the first assignment of a part down, and lists its joints that flow by
@@ -329,56 +264,44 @@ impl Lookups {
     pub(crate) fn find_part<P: Primitive, L: Ledger>(
         &mut self,
         alloc: Global,
-        circuit: &Circuit<P>,
-        knots: &Knots,
-        ends: &Ends,
-        kept: &Kept,
-        part: usize,
-        turn: u64,
-        budget: u64,
-        told: bool,
+        part: &PartOf<'_, P>,
+        standing: &Standing<'_>,
         steps: &mut Steps<L>,
         rows: &mut List<u32>,
     ) -> Result<(), Exceeds>
-        requires knots { AreKnots (net_of P.behaviour circuit.now) knots.now }
-        requires ends { AreEnds (net_of P.behaviour circuit.now) ends.now }
-        requires part { part < knot_count knots.now }
-        requires turn { 1 ≤ turn }
-        requires budget { budget < 10 ^ 18 }
-        requires kept { IsKept (net_of P.behaviour circuit.now) knots.now turn kept.now }
-        requires steady { AreSteady (net_of P.behaviour circuit.now) knots.now self.old }
-        requires rows { length rows.old ≡ side_count (net_of P.behaviour circuit.now) }
-        requires here { (s : ℕ) → in_knot knots.now.numbers part s ≡ true
-            → slice_index rows.old s ≡ slice_index kept.now.rows s }
-        requires told { let net = net_of P.behaviour circuit.now in
-            let inside = in_knot knots.now.numbers part in
-            told ≡ true → is_settled kept.now part ≡ true
-            → AreFlowingOf net inside rows.old (slice_index_or self.old.flowing part []) }
-        ensures steady { AreSteady (net_of P.behaviour circuit.now) knots.now self.new }
-        ensures listed { IsListedAt part self.old self.new }
-        ensures flowing { let net = net_of P.behaviour circuit.now in
-            let inside = in_knot knots.now.numbers part in
-            let list = slice_index_or self.new.flowing part [] in
-            OnOk result (AreFlowingOf net inside rows.new list) }
-        ensures exact { let net = net_of P.behaviour circuit.now in
-            MatchResult result (λ _. IsPartPlanned budget net knots.now turn part rows.old rows.new)
-            (IsSearchFault budget net (in_knot knots.now.numbers part) part) }
-        ensures ticks { let net = net_of P.behaviour circuit.now in
-            (w : ℕ) → IsWeight net (in_knot knots.now.numbers part) w
-            → steps.new ≤ steps.old + cond (serves kept.now budget part) 0 w }
+        requires part { IsPartOf (net_at P.behaviour part.now) part.now }
+        requires turn { 1 ≤ part.now.planning.now.turn }
+        requires kept { let planning = part.now.planning.now in
+            IsKept (net_at P.behaviour part.now)
+            planning.knots.now planning.turn standing.now.kept.now }
+        requires steady { AreSteadyFor (net_at P.behaviour part.now) part.now self.old }
+        requires rows { length rows.old ≡ side_count (net_at P.behaviour part.now) }
+        requires here { (s : ℕ) → in_part part.now s ≡ true
+            → slice_index rows.old s ≡ slice_index standing.now.kept.now.rows s }
+        requires told { let net = net_at P.behaviour part.now in
+            standing.now.told ≡ true → is_settled standing.now.kept.now part.now.number ≡ true
+            → AreFlowingAt net part.now rows.old self.old }
+        ensures steady { AreSteadyFor (net_at P.behaviour part.now) part.now self.new }
+        ensures listed { IsListedAt part.now.number self.old self.new }
+        ensures flowing { let net = net_at P.behaviour part.now in
+            OnOk result (AreFlowingAt net part.now rows.new self.new) }
+        ensures exact { let net = net_at P.behaviour part.now in
+            MatchResult result (λ _. IsPlannedAt net part.now rows.old rows.new)
+            (IsFaultAt net part.now) }
+        ensures ticks { let budget = part.now.planning.now.budget in
+            (w : ℕ) → IsWeight (net_at P.behaviour part.now) (in_part part.now) w
+            → steps.new ≤ steps.old
+            + cond (serves standing.now.kept.now budget part.now.number) 0 w }
     {
-        circuit.known();
-        if kept.serves(part, budget) {
-            self.list_served(circuit, knots, part, told, rows.as_slice())?;
+        part.planning.circuit.known();
+        if standing.kept.serves(part.number, part.planning.budget) {
+            self.list_served(part, standing.told, rows.as_slice())?;
             return Ok(());
         }
-        let list = self.flowing.at_mut(part);
-        if self
-            .plans
-            .recall(circuit, knots, part, turn, budget, rows, list)?
-        {
+        let list = self.flowing.at_mut(part.number);
+        if self.plans.recall(part, rows, list)? {
             return Ok(());
         }
-        self.find(alloc, circuit, knots, ends, part, turn, budget, steps, rows)
+        self.find(alloc, part, steps, rows)
     }
 }

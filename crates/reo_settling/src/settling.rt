@@ -1,19 +1,16 @@
 //! The rows of all parts.
-ghost use Rattle.std.specs.Prelude.{◌≡◌, ◌<◌, ◌≤◌, ◌+◌, ◌^◌, ℕ, true, false, IfOk, OnErr, OnOk, MatchResult, length};
-ghost use Rattle.reo_net_base.specs.Net.{net_of};
+ghost use Rattle.std.specs.Prelude.{◌≡◌, ◌≤◌, ◌+◌, ℕ, true, IfOk, OnErr, OnOk, MatchResult, length};
 ghost use Rattle.reo_net_base.specs.Colouring.{RowsFit};
-ghost use Rattle.reo_net_circuit.specs.found_ends.Ends.{AreEnds};
-ghost use Rattle.reo_net_laws.specs.Knots.{AreKnots, knot_count};
+ghost use Rattle.reo_net_laws.specs.Knots.{knot_count};
 ghost use Rattle.reo_flows.specs.flowing.Flowing.{AreFlowingIn};
 ghost use Rattle.reo_rounds.specs.Plans.{IsPlanFault};
-ghost use Rattle.reo_part_plans.specs.Plannings.{Kept as KeptRows, IsKept, ArePlanned, AreWeights, sum_below, weight_left};
+ghost use Rattle.reo_part_plans.specs.Plannings.{ArePlannedIn, Kept as KeptRows, IsKept, IsPlanning, AreWeights, net_in, sum_below, weight_left};
 ghost use Rattle.reo_settling.specs.Lookups.{AreLookups, IsForgotten, IsNextToSettle};
 
 use crate::lookups::Lookups;
-use reo_knots::Knots;
+use crate::standing::Standing;
 use reo_net_base::Primitive;
-use reo_net_circuit::{Circuit, Ends};
-use reo_part_plans::Kept;
+use reo_part_plans::{Kept, PartOf, Planning};
 use reo_rounds::Exceeds;
 use reo_steps::Steps;
 use reo_values::List;
@@ -43,10 +40,10 @@ impl Lookups {
         self.fresh.keep_where(kept.settled());
     }
 
-    /// The rows of the first colouring of a circuit in the round of a number, where no part is
-    /// over, and for each part its joints that flow. They are written into a list of the rows that
-    /// are kept, which stand where they serve; of other parts they are remembered, or searched. It
-    /// makes at most as many ticks as the weights of those say together.
+    /// The rows of the first colouring of what is planned, where no part is over, and for each part
+    /// its joints that flow. They are written into a list of the rows that are kept, which stand
+    /// where they serve; of other parts they are remembered, or searched. It makes at most as many
+    /// ticks as the weights of those say together.
     ///
     /// # Errors
     ///
@@ -55,48 +52,52 @@ impl Lookups {
     pub fn find_rows<P: Primitive, L: Ledger>(
         &mut self,
         alloc: Global,
-        circuit: &Circuit<P>,
-        knots: &Knots,
-        ends: &Ends,
+        planning: &Planning<'_, P>,
         kept: &Kept,
-        turn: u64,
-        budget: u64,
         steps: &mut Steps<L>,
         list: List<u32>,
     ) -> Result<List<u32>, Exceeds>
-        requires knots { AreKnots (net_of P.behaviour circuit.now) knots.now }
-        requires ends { AreEnds (net_of P.behaviour circuit.now) ends.now }
-        requires turn { 1 ≤ turn }
-        requires budget { budget < 10 ^ 18 }
-        requires kept { IsKept (net_of P.behaviour circuit.now) knots.now turn kept.now }
+        requires planning { IsPlanning (net_in P.behaviour planning.now) planning.now }
+        requires turn { 1 ≤ planning.now.turn }
+        requires kept { let knots = planning.now.knots.now in
+            IsKept (net_in P.behaviour planning.now) knots planning.now.turn kept.now }
         requires list { list ≡ kept.now.rows }
-        requires lookups { AreLookups (net_of P.behaviour circuit.now) knots.now kept.now self.old }
-        ensures lookups { let net = net_of P.behaviour circuit.now in
+        requires lookups { let knots = planning.now.knots.now in
+            AreLookups (net_in P.behaviour planning.now) knots kept.now self.old }
+        ensures lookups { let net = net_in P.behaviour planning.now in
+            let knots = planning.now.knots.now in
             IfOk result (λ rows. (later : KeptRows) → later.rows ≡ rows
-            → AreLookups net knots.now later self.new) }
-        ensures refused { let net = net_of P.behaviour circuit.now in
-            OnErr result ((later : KeptRows) → AreLookups net knots.now later self.new) }
+            → AreLookups net knots later self.new) }
+        ensures refused { let net = net_in P.behaviour planning.now in
+            let knots = planning.now.knots.now in
+            OnErr result ((later : KeptRows) → AreLookups net knots later self.new) }
         ensures told { OnOk result (self.new.told ≡ true) }
-        ensures flowing { let net = net_of P.behaviour circuit.now in
-            IfOk result (λ rows. AreFlowingIn net knots.now rows (λ _. true) self.new.flowing) }
-        ensures exact { let net = net_of P.behaviour circuit.now in
-            MatchResult result (ArePlanned budget net knots.now turn (knot_count knots.now))
-            (IsPlanFault budget net) }
-        ensures fit { IfOk result (RowsFit (net_of P.behaviour circuit.now)) }
-        ensures ticks { let count = knot_count knots.now in (weights : ℕ → ℕ)
-            → AreWeights (net_of P.behaviour circuit.now) knots.now weights
-            → steps.new ≤ steps.old + sum_below count (weight_left kept.now budget weights) }
+        ensures flowing { let net = net_in P.behaviour planning.now in
+            let knots = planning.now.knots.now in
+            IfOk result (λ rows. AreFlowingIn net knots rows (λ _. true) self.new.flowing) }
+        ensures exact { let net = net_in P.behaviour planning.now in
+            MatchResult result (ArePlannedIn net planning.now)
+            (IsPlanFault planning.now.budget net) }
+        ensures fit { IfOk result (RowsFit (net_in P.behaviour planning.now)) }
+        ensures ticks { let knots = planning.now.knots.now in
+            let budget = planning.now.budget in
+            (weights : ℕ → ℕ) → AreWeights (net_in P.behaviour planning.now) knots weights
+            → steps.new ≤ steps.old
+            + sum_below (knot_count knots) (weight_left kept.now budget weights) }
     {
-        circuit.known();
+        planning.circuit.known();
         let told = replace(&mut self.told, false);
         self.forget(kept);
         let mut rows = list;
-        let mut part = next_to_settle(kept, budget, told, 0);
-        while part < knots.count() {
-            self.find_part(
-                alloc, circuit, knots, ends, kept, part, turn, budget, told, steps, &mut rows,
-            )?;
-            part = next_to_settle(kept, budget, told, part + 1);
+        let mut part = next_to_settle(kept, planning.budget, told, 0);
+        while part < planning.knots.count() {
+            let here = PartOf {
+                planning: &*planning,
+                number: part,
+            };
+            let standing = Standing { kept: &*kept, told };
+            self.find_part(alloc, &here, &standing, steps, &mut rows)?;
+            part = next_to_settle(kept, planning.budget, told, part + 1);
         }
         self.told = true;
         Ok(rows)

@@ -14,7 +14,7 @@ take_sheet-requires-clause-rows g c = rw c.rows.ensures c.requires.flows.rows
 pub take_sheet-requires-clause-marks : goal.take_sheet-requires-clause-marks
 take_sheet-requires-clause-marks g c =
     subst (λ (n : ℕ). MayBeMarks n c.args.flows.now.marks)
-    (length-map c.args.circuit.now.primitives g.P.Primitive.behaviour ∙ ap (λ (xs : List _). length xs) (sym c.primitives-primitives.ensures)) c.requires.flows.marks
+    (length-map c.args.planning.now.circuit.now.primitives g.P.Primitive.behaviour ∙ ap (λ (xs : List _). length xs) (sym c.primitives-primitives.ensures)) c.requires.flows.marks
 
 pub make_round-requires-clause-marks : goal.make_round-requires-clause-marks
 make_round-requires-clause-marks g c = c.in_ok-sheet.ensures.marks ∙ ap (λ (xs : List _). length xs) c.primitives-primitives.ensures
@@ -32,7 +32,7 @@ pub make_round-requires-clause-items : goal.make_round-requires-clause-items
 make_round-requires-clause-items g c = rw c.joint_count-joints.ensures at c.in_ok-sheet.ensures.items
 
 pub returns-in_err-sheet-clause-flows : goal.returns-in_err-sheet-clause-flows
-returns-in_err-sheet-clause-flows g c = flows_taken (net_of g.P.Primitive.behaviour c.args.circuit.now) c.args.knots.now c.args.kept.now c.args.flows.now c.take_sheet.new.flows c.requires.flows c.take_sheet.ensures.taken
+returns-in_err-sheet-clause-flows g c = flows_taken (net_of g.P.Primitive.behaviour c.args.planning.now.circuit.now) c.args.planning.now.knots.now c.args.kept.now c.args.flows.now c.take_sheet.new.flows c.requires.flows c.take_sheet.ensures.taken
 
 pub returns-clause-flows : goal.returns-clause-flows
-returns-clause-flows g c = flows_taken (net_of g.P.Primitive.behaviour c.args.circuit.now) c.args.knots.now c.args.kept.now c.args.flows.now c.take_sheet.new.flows c.requires.flows c.take_sheet.ensures.taken
+returns-clause-flows g c = flows_taken (net_of g.P.Primitive.behaviour c.args.planning.now.circuit.now) c.args.planning.now.knots.now c.args.kept.now c.args.flows.now c.take_sheet.new.flows c.requires.flows c.take_sheet.ensures.taken

@@ -5,8 +5,8 @@ use Rattle.reo_planning.proofs.parts.plan_part.Goals as goal
 
 pub returns-then-serves-clause-exact : goal.returns-then-serves-clause-exact
 returns-then-serves-clause-exact g c =
-    let net : Net = net_of g.P.Primitive.behaviour c.args.circuit.now in
-    served c.args.budget net c.args.knots.now c.requires.knots c.args.turn c.args.knot c.requires.knot c.args.kept.now c.args.rows.now c.requires.kept (sym c.serves.ensures ∙ c.if-serves.true) c.requires.here
+    let net : Net = net_of g.P.Primitive.behaviour c.args.part.now.planning.now.circuit.now in
+    served c.args.part.now.planning.now.budget net c.args.part.now.planning.now.knots.now c.requires.part.planning.knots c.args.part.now.planning.now.turn c.args.part.now.number c.requires.part.number c.args.kept.now c.args.rows.now c.requires.kept (sym c.serves.ensures ∙ c.if-serves.true) c.requires.here
 
 pub returns-clause-ticks : goal.returns-clause-ticks
 returns-clause-ticks g c = λ w is.

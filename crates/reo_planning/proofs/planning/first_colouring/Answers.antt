@@ -4,5 +4,5 @@ use Rattle.reo_planning.proofs.planning.first_colouring.Goals as goal
 
 pub returns-clause-exact : goal.returns-clause-exact
 returns-clause-exact g c =
-    let net : Net = net_of g.P.Primitive.behaviour c.args.circuit.now in
-    first_by c.args.budget net c.known.ensures.wired c.args.knots.now c.requires.knots c.args.turn c.in_ok-rows.rows c.in_ok-rows.ensures.exact c.in_ok-fill_with.field-0 c.in_ok-fill_with.ensures.rows c.in_ok-fill_with.ensures.one
+    let net : Net = net_of g.P.Primitive.behaviour c.args.planning.now.circuit.now in
+    first_by c.args.planning.now.budget net c.known.ensures.wired c.args.planning.now.knots.now c.requires.planning.knots c.args.planning.now.turn c.in_ok-rows.rows c.in_ok-rows.ensures.exact c.in_ok-fill_with.field-0 c.in_ok-fill_with.ensures.rows c.in_ok-fill_with.ensures.one

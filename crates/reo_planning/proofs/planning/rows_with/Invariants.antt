@@ -8,7 +8,7 @@ use Rattle.reo_planning.proofs.planning.rows_with.Given as goal
 -- The parts so far are planned, and those that come have the rows that are kept.
 abbrev pub invariant-loop-knot : goal.invariant-loop-knot
 invariant-loop-knot g l = record {
-  far : ArePlannedSoFar l.budget (net_of g.P.Primitive.behaviour l.circuit) l.knots l.turn l.knot l.kept.rows l.rows;
-  ready : AreReady (net_of g.P.Primitive.behaviour l.circuit) l.ends l.tables;
-  ticks : (weights : ℕ → ℕ) → AreWeights (net_of g.P.Primitive.behaviour l.circuit) l.knots weights → l.steps ≤ l.initial.steps + sum_below l.knot (weight_left l.kept l.budget weights);
+  far : ArePlannedSoFar l.planning.budget (net_of g.P.Primitive.behaviour l.planning.circuit.now) l.planning.knots.now l.planning.turn l.knot l.kept.rows l.rows;
+  ready : AreReady (net_of g.P.Primitive.behaviour l.planning.circuit.now) l.planning.ends.now l.tables;
+  ticks : (weights : ℕ → ℕ) → AreWeights (net_of g.P.Primitive.behaviour l.planning.circuit.now) l.planning.knots.now weights → l.steps ≤ l.initial.steps + sum_below l.knot (weight_left l.kept l.planning.budget weights);
 }

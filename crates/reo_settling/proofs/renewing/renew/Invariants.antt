@@ -7,7 +7,7 @@ use Rattle.reo_settling.proofs.renewing.renew.Given as goal
 abbrev pub invariant-loop-part : goal.invariant-loop-part
 invariant-loop-part g l = record {
   in_range : l.part ≤ length l.fresh;
-  far : AreRenewed (net_of g.P.Primitive.behaviour l.circuit) l.knots l.fresh l.part l.tables;
+  far : AreRenewed (net_of g.P.Primitive.behaviour l.planning.circuit.now) l.planning.knots.now l.fresh l.part l.tables;
 }
 
 abbrev pub decreases-loop-part : goal.decreases-loop-part

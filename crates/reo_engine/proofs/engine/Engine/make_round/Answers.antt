@@ -44,7 +44,7 @@ invariant_of-self-in_err-made_round g c =
     )
 
 pub make_by-requires-clause-lists : goal.make_by-requires-clause-lists
-make_by-requires-clause-lists g c = rw c.flowing.ensures (told_of_all (net_of g.P.Primitive.behaviour c.self.inside.circuit) c.self.inside.knots c.renew_marked.new.kept c.args.budget c.in_ok-renew_marked.ensures.exact.serve
+make_by-requires-clause-lists g c = rw c.flowing-lists.ensures (told_of_all (net_of g.P.Primitive.behaviour c.self.inside.circuit) c.self.inside.knots c.renew_marked.new.kept c.args.budget c.in_ok-renew_marked.ensures.exact.serve
     c.renew_marked.new.lookups.flowing (c.renew_marked.ensures.lookups.flowing c.in_ok-renew_marked.ensures.told))
 
 pub make_by-requires-clause-moving : goal.make_by-requires-clause-moving
@@ -52,7 +52,7 @@ make_by-requires-clause-moving g c =
     let net : Net = net_of g.P.Primitive.behaviour c.self.inside.circuit in
     let exact = c.in_ok-renew_marked.ensures.exact in
     let told = told_of_all net c.self.inside.knots c.renew_marked.new.kept c.args.budget exact.serve c.renew_marked.new.lookups.flowing (c.renew_marked.ensures.lookups.flowing c.in_ok-renew_marked.ensures.told) in
-    rw c.flowing.ensures (lists_moving net c.known.ensures.wired c.self.inside.knots c.self.invariant.3.are_knots _ c.renew_marked.new.kept c.renew_marked.ensures.kept exact.first.first.colouring.rows_fit
+    rw c.flowing-lists.ensures (lists_moving net c.known.ensures.wired c.self.inside.knots c.self.invariant.3.are_knots _ c.renew_marked.new.kept c.renew_marked.ensures.kept exact.first.first.colouring.rows_fit
     (served_settled c.renew_marked.new.kept c.args.budget (knot_count c.self.inside.knots) exact.serve) c.renew_marked.new.lookups.flowing told)
 
 pub make_by-requires-clause-first : goal.make_by-requires-clause-first

@@ -9,12 +9,12 @@ use Rattle.reo_settling.proofs.lookups.Lookups.find_rows.Given as goal
 -- The parts so far are planned, and those that come have the rows that are kept.
 abbrev pub invariant-loop-part : goal.invariant-loop-part
 invariant-loop-part g l = record {
-  in_range : l.part ≤ knot_count l.knots;
-  far : AreSettledFar l.budget (net_of g.P.Primitive.behaviour l.circuit) l.knots l.turn l.kept l.told l.part l.rows l.self.flowing;
+  in_range : l.part ≤ knot_count l.planning.knots.now;
+  far : AreSettledFar l.planning.budget (net_of g.P.Primitive.behaviour l.planning.circuit.now) l.planning.knots.now l.planning.turn l.kept l.told l.part l.rows l.self.flowing;
   untold : l.self.told ≡ false;
-  steady : AreSteady (net_of g.P.Primitive.behaviour l.circuit) l.knots l.self;
-  ticks : (weights : ℕ → ℕ) → AreWeights (net_of g.P.Primitive.behaviour l.circuit) l.knots weights → l.steps ≤ l.initial.steps + sum_below l.part (weight_left l.kept l.budget weights);
+  steady : AreSteady (net_of g.P.Primitive.behaviour l.planning.circuit.now) l.planning.knots.now l.self;
+  ticks : (weights : ℕ → ℕ) → AreWeights (net_of g.P.Primitive.behaviour l.planning.circuit.now) l.planning.knots.now weights → l.steps ≤ l.initial.steps + sum_below l.part (weight_left l.kept l.planning.budget weights);
 }
 
 abbrev pub decreases-loop-part : goal.decreases-loop-part
-decreases-loop-part g l = knot_count l.knots - l.part
+decreases-loop-part g l = knot_count l.planning.knots.now - l.part

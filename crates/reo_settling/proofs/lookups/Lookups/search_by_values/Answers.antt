@@ -6,12 +6,12 @@ use Rattle.reo_settling.proofs.lookups.Lookups.search_by_values.Goals as goal
 
 pub returns-clause-steady : goal.returns-clause-steady
 returns-clause-steady g c =
-    let net : Net = net_of g.P.Primitive.behaviour c.args.circuit.now in
+    let net : Net = net_of g.P.Primitive.behaviour c.args.part.now.planning.now.circuit.now in
     record {
       orders = c.requires.steady.orders;
       one_list = c.requires.steady.one_list;
       one_each = ap length c.set_all.ensures ∙ length-replicate (length c.args.self.now.fresh) true ∙ c.requires.steady.one_each;
-      tables = ready_may_stay net c.args.knots.now c.args.ends.now c.set_all.new.self c.search_part.new.tables c.in_ok-search_part.ensures.tables;
+      tables = ready_may_stay net c.args.part.now.planning.now.knots.now c.args.part.now.planning.now.ends.now c.set_all.new.self c.search_part.new.tables c.in_ok-search_part.ensures.tables;
       bounds = c.requires.steady.bounds;
       plans = c.requires.steady.plans;
       marks = c.requires.steady.marks;
