@@ -1,3 +1,4 @@
 pub mod First
+pub mod Tables
 pub mod Isolated
 pub mod choices

@@ -1,3 +1,4 @@
 pub mod Remaining
 pub mod Trying
 pub mod Best
+pub mod Searched

@@ -3,8 +3,10 @@
 mod best;
 mod choices;
 mod kept;
+mod searched;
 mod trying;
 mod weighing;
 
-pub use choices::first_over;
-pub use weighing::{narrow_all, weight_of};
+pub(crate) use choices::first_over;
+pub(crate) use searched::Searched;
+pub(crate) use weighing::{narrow_all, weight_of};

@@ -7,14 +7,17 @@ ghost use Rattle.reo_reach.specs.Supplied.{AreShort, IsReached, IsSupply, is_wid
 ghost use Rattle.reo_joint_values.specs.Many.{IsJointIn};
 ghost use Rattle.reo_weights.specs.Weights.{IsWeight, all_values};
 ghost use Rattle.reo_rows.specs.Rows.{AreTables};
-ghost use Rattle.reo_rows.specs.Sets.{IsReady, names_of};
+ghost use Rattle.reo_rows.specs.Sets.{IsReady};
 ghost use Rattle.reo_propagate.specs.Basis.{IsSearchOn};
-ghost use Rattle.reo_propagate.specs.Queues.{among};
-ghost use Rattle.reo_search.specs.choices.Remaining.{IsLeftOfAll, CoverAll, choices_of};
-ghost use Rattle.reo_search.specs.choices.Trying.{AreOfKnot, IsLeastOf, MayRestartOn};
+ghost use Rattle.reo_walk.specs.Wanted.{IsWanted, in_wanted};
+ghost use Rattle.reo_search.specs.choices.Remaining.{choices_of};
+ghost use Rattle.reo_search.specs.choices.Trying.{IsLeastOf, MayRestartOn};
+ghost use Rattle.reo_search.specs.choices.Searched.{IsSearched, IsLeftIn, inside_of, names_in};
+ghost use Rattle.reo_search.specs.Tables.{AreBegun};
 ghost use Rattle.reo_search.specs.First.{IsFirstWithin, IsSearchFault, HasNoThreeColouring};
 
-use crate::choices::{first_over, narrow_all, weight_of};
+use crate::choices::{Searched, first_over, narrow_all, weight_of};
+use crate::tables::Tables;
 use crate::widths::has_wide;
 use reo_knots::Knots;
 use reo_net_base::Primitive;
@@ -25,7 +28,7 @@ use reo_rows::Basis;
 use reo_side_tables::{Board, boards_of};
 use reo_steps::Steps;
 use reo_values::{List, NoMemory};
-use reo_walk::{KeyPlace, Part, part_of, places_of};
+use reo_walk::{Part, Wanted, part_of, places_of};
 use reo_weights::Exceeds;
 use std::alloc::Global;
 use std::sync::ledger::Ledger;
@@ -33,34 +36,27 @@ use std::sync::ledger::Ledger;
 /// The numbers of the first assignment. It ticks at most once for each choice of what is left at
 /// the loop joints. `NoMemory` is out of memory.
 fn first_numbers<P: Primitive, L: Ledger>(
-    alloc: Global,
-    basis: &Basis<'_, P>,
-    sides: &[usize],
+    searched: &Searched<'_, P>,
     state: &mut State,
-    places: &[KeyPlace],
-    turn: u64,
-    loops: &[usize],
     left: &List<List<usize>>,
     steps: &mut Steps<L>,
 ) -> Result<List<usize>, NoMemory>
-    requires search { let net = net_of P.behaviour basis.now.circuit.now in
-        IsSearchOn net basis.now (among sides.now) state.old }
-    requires knot { let net = net_of P.behaviour basis.now.circuit.now in
-        AreOfKnot net sides.now places.now loops.now }
-    requires alive { let net = net_of P.behaviour basis.now.circuit.now in
-        IsLeftOfAll net (names_of basis.now.items.now) (among sides.now) state.old.alive }
-    requires left { length left.now ≡ length loops.now }
-    requires cover { let net = net_of P.behaviour basis.now.circuit.now in
-        CoverAll net (names_of basis.now.items.now) (among sides.now) loops.now left.now }
-    ensures first { let net = net_of P.behaviour basis.now.circuit.now in
-        IfOk result (IsLeastOf (IsChosen net (names_of basis.now.items.now) (among sides.now)
-        (all_values (names_of basis.now.items.now))) net turn places.now) }
-    ensures tables { let net = net_of P.behaviour basis.now.circuit.now in
-        OnOk result (MayRestartOn net basis.now state.new) }
+    requires search { let net = net_of P.behaviour searched.now.basis.now.circuit.now in
+        IsSearchOn net searched.now.basis.now (inside_of searched.now) state.old }
+    requires searched { let net = net_of P.behaviour searched.now.basis.now.circuit.now in
+        IsSearched net searched.now }
+    requires left { let net = net_of P.behaviour searched.now.basis.now.circuit.now in
+        IsLeftIn net searched.now state.old.alive left.now }
+    ensures first { let net = net_of P.behaviour searched.now.basis.now.circuit.now in
+        let names = names_in searched.now in
+        IfOk result (IsLeastOf (IsChosen net names (inside_of searched.now) (all_values names))
+        net searched.now.turn searched.now.places.now) }
+    ensures tables { let net = net_of P.behaviour searched.now.basis.now.circuit.now in
+        OnOk result (MayRestartOn net searched.now.basis.now state.new) }
     ensures ticks { steps.new ≤ steps.old + choices_of left.now }
 {
-    basis.circuit.known();
-    match first_over(alloc, basis, sides, state, places, turn, loops, left, steps)? {
+    searched.basis.circuit.known();
+    match first_over(searched, state, left, steps)? {
         None => unreachable!(),
         Some(chosen) => Ok(chosen),
     }
@@ -101,9 +97,76 @@ pub fn weight<P: Primitive>(
     Ok(weight_of(&left))
 }
 
-/// What `first` answers, over tables that were made before: boards and ends of the circuit, and a
-/// search that was begun, at any sides. Of the supply only the joints of the knot are looked at. It
-/// costs what the knot has.
+/// What `first` answers, over tables of the circuit and a search that was begun, at any sides. Of
+/// the supply only the joints of the knot are looked at. It costs what the knot has.
+///
+/// # Errors
+///
+/// Those of `first`.
+pub fn first_on<P: Primitive, L: Ledger>(
+    alloc: Global,
+    wanted: &Wanted<'_, P>,
+    tables: &Tables<'_>,
+    budget: u64,
+    state: &mut State,
+    steps: &mut Steps<L>,
+) -> Result<Part, Exceeds>
+    requires wanted { IsWanted (net_of P.behaviour wanted.now.circuit.now) wanted.now }
+    requires reached { let net = net_of P.behaviour wanted.now.circuit.now in
+        (j : ℕ) → IsJointIn net (in_wanted wanted.now) j
+        → IsReached net wanted.now.supply.now j }
+    requires short { AreShort wanted.now.supply.now }
+    requires begun { let net = net_of P.behaviour wanted.now.circuit.now in
+        AreBegun net wanted.now tables.now state.old }
+    requires budget { budget < 10 ^ 18 }
+    ensures exact { let net = net_of P.behaviour wanted.now.circuit.now in
+        MatchResult result (IsFirstWithin budget net (in_wanted wanted.now) wanted.now.turn)
+        (IsSearchFault budget net (in_wanted wanted.now) wanted.now.knot) }
+    ensures jammed { let net = net_of P.behaviour wanted.now.circuit.now in
+        IfOk result (λ part. IsTrue part.jammed ↔ HasNoThreeColouring net
+        (in_wanted wanted.now)) }
+    ensures begun { let net = net_of P.behaviour wanted.now.circuit.now in
+        OnOk result (AreBegun net wanted.now tables.now state.new) }
+    ensures ticks { let net = net_of P.behaviour wanted.now.circuit.now in
+        (w : ℕ) → IsWeight net (in_wanted wanted.now) w → steps.new ≤ steps.old + w }
+{
+    wanted.circuit.known();
+    let _order = wanted.circuit.order();
+    let sides = wanted.knots.sides(wanted.knot);
+    if has_wide(wanted.circuit, tables.boards, wanted.supply, sides) {
+        return Err(Exceeds::Wide { knot: wanted.knot });
+    }
+    let items = wanted.supply.lists();
+    let loops = wanted.knots.loop_joints(wanted.knot);
+    let basis = Basis {
+        circuit: wanted.circuit,
+        boards: tables.boards,
+        ends: tables.ends,
+        items,
+    };
+    restart(alloc, &basis, sides, state)?;
+    let left = narrow_all(alloc, &basis, sides, state, loops)?;
+    let weight = weight_of(&left);
+    if weight > budget {
+        return Err(Exceeds::Spent {
+            knot: wanted.knot,
+            weight,
+        });
+    }
+    let places = places_of(alloc, wanted.circuit, sides)?;
+    let searched = Searched {
+        alloc,
+        basis: &basis,
+        sides,
+        places: places.as_slice(),
+        loops,
+        turn: wanted.turn,
+    };
+    let chosen = first_numbers(&searched, state, &left, steps)?;
+    Ok(part_of(alloc, wanted.circuit, sides, chosen.as_slice())?)
+}
+
+/// What `first_on` answers, for a caller that has each part of what is wanted by itself.
 ///
 /// # Errors
 ///
@@ -147,39 +210,15 @@ pub fn first_with<P: Primitive, L: Ledger>(
     ensures ticks { let net = net_of P.behaviour circuit.now in
         (w : ℕ) → IsWeight net (in_knot knots.now.numbers knot) w → steps.new ≤ steps.old + w }
 {
-    circuit.known();
-    let _order = circuit.order();
-    let sides = knots.sides(knot);
-    if has_wide(circuit, boards, supply, sides) {
-        return Err(Exceeds::Wide { knot });
-    }
-    let items = supply.lists();
-    let loops = knots.loop_joints(knot);
-    let basis = Basis {
+    let wanted = Wanted {
         circuit,
-        boards,
-        ends,
-        items,
-    };
-    restart(alloc, &basis, sides, state)?;
-    let left = narrow_all(alloc, &basis, sides, state, loops)?;
-    let weight = weight_of(&left);
-    if weight > budget {
-        return Err(Exceeds::Spent { knot, weight });
-    }
-    let places = places_of(alloc, circuit, sides)?;
-    let chosen = first_numbers(
-        alloc,
-        &basis,
-        sides,
-        state,
-        places.as_slice(),
+        knots,
+        supply,
+        knot,
         turn,
-        loops,
-        &left,
-        steps,
-    )?;
-    Ok(part_of(alloc, circuit, sides, chosen.as_slice())?)
+    };
+    let tables = Tables { boards, ends };
+    first_on(alloc, &wanted, &tables, budget, state, steps)
 }
 
 /// The rows that the first colouring of the circuit, in the round of a number, has on the sides of
@@ -193,40 +232,32 @@ pub fn first_with<P: Primitive, L: Ledger>(
 /// of memory.
 pub fn first<P: Primitive, L: Ledger>(
     alloc: Global,
-    circuit: &Circuit<P>,
-    knots: &Knots,
-    supply: &Supply,
-    knot: usize,
-    turn: u64,
+    wanted: &Wanted<'_, P>,
     budget: u64,
     steps: &mut Steps<L>,
 ) -> Result<Part, Exceeds>
-    requires knots { AreKnots (net_of P.behaviour circuit.now) knots.now }
-    requires knot { knot < knot_count knots.now }
-    requires supply { IsSupply (net_of P.behaviour circuit.now) supply.now }
-    requires short { AreShort supply.now }
+    requires wanted { IsWanted (net_of P.behaviour wanted.now.circuit.now) wanted.now }
+    requires supply { IsSupply (net_of P.behaviour wanted.now.circuit.now) wanted.now.supply.now }
+    requires short { AreShort wanted.now.supply.now }
     requires budget { budget < 10 ^ 18 }
-    ensures exact { let net = net_of P.behaviour circuit.now in
-        MatchResult result (IsFirstWithin budget net (in_knot knots.now.numbers knot) turn)
-        (IsSearchFault budget net (in_knot knots.now.numbers knot) knot) }
-    ensures jammed { let net = net_of P.behaviour circuit.now in
+    ensures exact { let net = net_of P.behaviour wanted.now.circuit.now in
+        MatchResult result (IsFirstWithin budget net (in_wanted wanted.now) wanted.now.turn)
+        (IsSearchFault budget net (in_wanted wanted.now) wanted.now.knot) }
+    ensures jammed { let net = net_of P.behaviour wanted.now.circuit.now in
         IfOk result (λ part. IsTrue part.jammed ↔ HasNoThreeColouring net
-        (in_knot knots.now.numbers knot)) }
-    ensures ticks { let net = net_of P.behaviour circuit.now in
-        (w : ℕ) → IsWeight net (in_knot knots.now.numbers knot) w → steps.new ≤ steps.old + w }
+        (in_wanted wanted.now)) }
+    ensures ticks { let net = net_of P.behaviour wanted.now.circuit.now in
+        (w : ℕ) → IsWeight net (in_wanted wanted.now) w → steps.new ≤ steps.old + w }
 {
-    circuit.known();
-    let ends = ends_of(alloc, circuit)?;
-    let boards = boards_of(alloc, circuit, &ends)?;
-    let mut state = begin(
-        alloc,
-        circuit,
-        &boards,
-        &ends,
-        supply.lists(),
-        knots.sides(knot),
-    )?;
-    first_with(
-        alloc, circuit, knots, &boards, &ends, supply, &mut state, knot, turn, budget, steps,
-    )
+    wanted.circuit.known();
+    let ends = ends_of(alloc, wanted.circuit)?;
+    let boards = boards_of(alloc, wanted.circuit, &ends)?;
+    let sides = wanted.knots.sides(wanted.knot);
+    let items = wanted.supply.lists();
+    let mut state = begin(alloc, wanted.circuit, &boards, &ends, items, sides)?;
+    let tables = Tables {
+        boards: &boards,
+        ends: &ends,
+    };
+    first_on(alloc, wanted, &tables, budget, &mut state, steps)
 }

@@ -2,6 +2,7 @@
 ghost use Rattle.std.specs.Prelude.{◌≡◌, ◌<◌, ◌+◌, IsTrue};
 ghost use Rattle.reo_net_base.specs.Net.{net_of};
 ghost use Rattle.reo_net_laws.specs.Knots.{AreKnots, knot_count};
+ghost use Rattle.reo_walk.specs.Wanted.{IsWanted};
 
 use crate::bounds::{are_single, are_within};
 use crate::looks::is_part;
@@ -11,7 +12,7 @@ use reo_net_base::Primitive;
 use reo_net_circuit::Circuit;
 use reo_propagate::{Sets, narrow};
 use reo_reach::Supply;
-use reo_search::{Part, arrange};
+use reo_search::{Part, Wanted, arrange};
 use reo_steps::Steps;
 use std::alloc::Global;
 use std::sync::ledger::Ledger;
@@ -32,27 +33,23 @@ fn is_found(part: &Option<Part>, want: Want<'_>) -> bool {
 /// Whether the first assignment with these values is as it was found by hand. It ticks once.
 pub fn is_arranged<P: Primitive, L: Ledger>(
     alloc: Global,
-    circuit: &Circuit<P>,
-    knots: &Knots,
-    supply: &Supply,
-    turn: u64,
+    wanted: &Wanted<'_, P>,
     values: Table,
     want: Want<'_>,
     steps: &mut Steps<L>,
 ) -> bool
-    requires knots { AreKnots (net_of P.behaviour circuit.now) knots.now }
-    requires some { 0 < knot_count knots.now }
+    requires { IsWanted (net_of P.behaviour wanted.now.circuit.now) wanted.now }
     ensures { IsTrue result → steps.new ≡ steps.old + 1 }
 {
     let Ok(sets) = sets_of(alloc, values) else {
         return false;
     };
-    let items = supply.lists();
-    let single = are_single(&sets, knots.loop_joints(0));
+    let items = wanted.supply.lists();
+    let single = are_single(&sets, wanted.knots.loop_joints(wanted.knot));
     single
-        && items.len() == circuit.joint_count()
+        && items.len() == wanted.circuit.joint_count()
         && are_within(items, &sets)
-        && match arrange(alloc, circuit, knots, supply, &sets, 0, turn, steps) {
+        && match arrange(alloc, wanted, &sets, steps) {
             Ok(part) => is_found(&part, want),
             Err(_) => false,
         }

@@ -15,6 +15,7 @@ use reo_knots::{Knots, find_knots};
 use reo_net_base::Primitive;
 use reo_net_circuit::Circuit;
 use reo_reach::{Supply, reach};
+use reo_search::Wanted;
 use reo_steps::Steps;
 use std::alloc::Global;
 use std::marker::Brand;
@@ -42,6 +43,14 @@ pub enum Fact<'a> {
     Begun(Option<Table>, &'a [Left; 4]),
 }
 
+/// The round that a fact is of: the first, where it names none.
+fn turn_of(fact: Fact<'_>) -> u64 {
+    match fact {
+        Fact::Arranged(turn, _, _) => turn,
+        _ => 1,
+    }
+}
+
 fn is_so<P: Primitive, L: Ledger>(
     alloc: Global,
     circuit: &Circuit<P>,
@@ -55,16 +64,21 @@ fn is_so<P: Primitive, L: Ledger>(
     requires supply { IsSupply (net_of P.behaviour circuit.now) supply.now }
     requires short { AreShort supply.now }
 {
+    let wanted = Wanted {
+        circuit,
+        knots,
+        supply,
+        knot: 0,
+        turn: turn_of(fact),
+    };
     match fact {
         Fact::Supplied(joints, ones) => is_supplied(supply, joints, ones),
         Fact::Only(sides, loops) => is_one_knot(knots, sides, loops),
-        Fact::Within(budget, weighs, rows) => searched(
-            alloc, circuit, knots, supply, weighs, budget, rows, steps,
-        ),
-        Fact::Wide(budget) => is_wide(alloc, circuit, knots, supply, budget, steps),
-        Fact::Arranged(turn, values, want) => is_arranged(
-            alloc, circuit, knots, supply, turn, values, want, steps,
-        ),
+        Fact::Within(budget, weighs, rows) => {
+            searched(alloc, &wanted, weighs, budget, rows, steps)
+        }
+        Fact::Wide(budget) => is_wide(alloc, &wanted, budget, steps),
+        Fact::Arranged(_, values, want) => is_arranged(alloc, &wanted, values, want, steps),
         Fact::Narrowed(values, want) => { is_narrowed(alloc, circuit, knots, supply, values, want) }
         Fact::Begun(values, want) => is_begun(alloc, circuit, knots, supply, values, want),
     }

@@ -1,58 +1,44 @@
 //! First colourings, made over and over.
-ghost use Rattle.std.specs.Prelude.{◌≡◌, ◌<◌, ℕ, length};
-ghost use Rattle.reo_net_base.specs.Net.{net_of, all_sides};
+ghost use Rattle.std.specs.Prelude.{◌<◌};
+ghost use Rattle.reo_net_base.specs.Net.{net_of};
 ghost use Rattle.reo_net_laws.specs.Knots.{AreKnots, knot_count};
-ghost use Rattle.reo_rows.specs.Rows.{AreTables};
-ghost use Rattle.reo_rows.specs.Sets.{IsReady};
 ghost use Rattle.reo_reach.specs.Supplied.{AreShort, IsSupply};
+ghost use Rattle.reo_walk.specs.Wanted.{IsWanted};
+ghost use Rattle.reo_search.specs.Tables.{AreBegun};
 
 use reo_knots::Knots;
 use reo_net_base::Primitive;
-use reo_net_circuit::{Circuit, Ends, ends_of};
+use reo_net_circuit::{Circuit, ends_of};
 use reo_propagate::{State, begin};
-use reo_reach::{Supply, reach};
-use reo_search::{Exceeds, Part, first_with};
-use reo_side_tables::{Board, boards_of};
+use reo_reach::reach;
+use reo_search::{Exceeds, Part, Tables, Wanted, first_on};
+use reo_side_tables::boards_of;
 use reo_steps::Steps;
-use reo_values::List;
 use std::alloc::Global;
 use std::sync::ledger::Ledger;
 
 /// The greatest budget.
 const BUDGET: u64 = 999_999_999_999_999_999;
 
-/// The first colouring of a part in the first round, made so many times over tables of the circuit,
-/// and once at least.
+/// The first colouring of a part, made so many times over tables of the circuit, and once at least.
 fn colour_with<P: Primitive, L: Ledger>(
     alloc: Global,
-    circuit: &Circuit<P>,
-    knots: &Knots,
-    boards: &List<Board>,
-    ends: &Ends,
-    supply: &Supply,
+    wanted: &Wanted<'_, P>,
+    tables: &Tables<'_>,
     state: &mut State,
-    knot: usize,
     times: u32,
     steps: &mut Steps<L>,
 ) -> Result<Part, Exceeds>
-    requires knots { AreKnots (net_of P.behaviour circuit.now) knots.now }
-    requires knot { knot < knot_count knots.now }
-    requires supply { IsSupply (net_of P.behaviour circuit.now) supply.now }
-    requires short { AreShort supply.now }
-    requires ready { let net = net_of P.behaviour circuit.now in
-        IsReady net boards.now ends.now supply.now.items state.old.alive }
-    requires tables { AreTables (net_of P.behaviour circuit.now) supply.now.items state.old.rows }
-    requires waits { let net = net_of P.behaviour circuit.now in
-        length state.old.queue.waits ≡ length (all_sides net.primitives) }
+    requires wanted { IsWanted (net_of P.behaviour wanted.now.circuit.now) wanted.now }
+    requires supply { IsSupply (net_of P.behaviour wanted.now.circuit.now) wanted.now.supply.now }
+    requires short { AreShort wanted.now.supply.now }
+    requires begun { let net = net_of P.behaviour wanted.now.circuit.now in
+        AreBegun net wanted.now tables.now state.old }
 {
-    circuit.known();
-    let mut part = first_with(
-        alloc, circuit, knots, boards, ends, supply, state, knot, 1, BUDGET, steps,
-    )?;
+    wanted.circuit.known();
+    let mut part = first_on(alloc, wanted, tables, BUDGET, state, steps)?;
     for _ in 1..times {
-        part = first_with(
-            alloc, circuit, knots, boards, ends, supply, state, knot, 1, BUDGET, steps,
-        )?;
+        part = first_on(alloc, wanted, tables, BUDGET, state, steps)?;
     }
     Ok(part)
 }
@@ -76,7 +62,16 @@ pub fn colour<P: Primitive, L: Ledger>(
     let supply = reach(alloc, circuit)?;
     let items = supply.lists();
     let mut state = begin(alloc, circuit, &boards, &ends, items, knots.sides(knot))?;
-    colour_with(
-        alloc, circuit, knots, &boards, &ends, &supply, &mut state, knot, times, steps,
-    )
+    let wanted = Wanted {
+        circuit,
+        knots,
+        supply: &supply,
+        knot,
+        turn: 1,
+    };
+    let tables = Tables {
+        boards: &boards,
+        ends: &ends,
+    };
+    colour_with(alloc, &wanted, &tables, &mut state, times, steps)
 }

@@ -4,3 +4,4 @@ pub mod Pins
 pub mod Settling
 pub mod Walking
 pub mod Arranged
+pub mod Wanted

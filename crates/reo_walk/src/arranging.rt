@@ -14,16 +14,17 @@ ghost use Rattle.reo_walk.specs.declared.place.KeyPlace.{KeyPlace as Spot};
 ghost use Rattle.reo_walk.specs.Places.{side_of_place};
 ghost use Rattle.reo_walk.specs.Settling.{HasNone, IsFirstWith};
 ghost use Rattle.reo_walk.specs.Arranged.{HasNoAssignment, IsFirstPart};
+ghost use Rattle.reo_walk.specs.Wanted.{IsWanted, in_wanted};
 
 use crate::part::{Part, part_of};
 use crate::place::KeyPlace;
 use crate::places::places_of;
 use crate::walking::walk;
+use crate::wanted::Wanted;
 use reo_knots::Knots;
 use reo_net_base::Primitive;
-use reo_net_circuit::{Circuit, ends_of};
+use reo_net_circuit::ends_of;
 use reo_propagate::{Sets, State, begin_with};
-use reo_reach::Supply;
 use reo_rows::Basis;
 use reo_side_tables::boards_of;
 use reo_steps::Steps;
@@ -104,42 +105,38 @@ fn arrange_by<P: Primitive>(
     }
 }
 
-/// The first assignment of a knot with values in these sets, or `None` exactly where there is none.
-/// It ticks once.
+/// The first assignment that is wanted, with values in these sets, or `None` exactly where there is
+/// none. It ticks once.
 pub fn arrange<P: Primitive, L: Ledger>(
     alloc: Global,
-    circuit: &Circuit<P>,
-    knots: &Knots,
-    supply: &Supply,
+    wanted: &Wanted<'_, P>,
     sets: &Sets,
-    knot: usize,
-    turn: u64,
     steps: &mut Steps<L>,
 ) -> Result<Option<Part>, NoMemory>
-    requires knots { AreKnots (net_of P.behaviour circuit.now) knots.now }
-    requires knot { knot < knot_count knots.now }
-    requires items { length supply.now.items ≡ length circuit.now.joints }
-    requires few { (j : ℕ) → length (slice_index_or supply.now.items j []) < 2 ^ 32 }
-    requires one_each { length sets.now.values ≡ length circuit.now.joints }
-    requires numbers { let net = net_of P.behaviour circuit.now in
-        AreInSupply net (in_knot knots.now.numbers knot) supply.now.items (listed sets.now.values) }
-    requires one { let net = net_of P.behaviour circuit.now in
-        OneAtLoops net (in_knot knots.now.numbers knot) (listed sets.now.values) }
-    ensures first { let net = net_of P.behaviour circuit.now in
-        IfOk result (λ found. MatchOption found (HasNoAssignment net (names_of supply.now.items)
-        (in_knot knots.now.numbers knot) (listed sets.now.values))
-        (IsFirstPart net (names_of supply.now.items) (in_knot knots.now.numbers knot) turn
+    requires wanted { IsWanted (net_of P.behaviour wanted.now.circuit.now) wanted.now }
+    requires items { length wanted.now.supply.now.items ≡ length wanted.now.circuit.now.joints }
+    requires few { (j : ℕ) → length (slice_index_or wanted.now.supply.now.items j []) < 2 ^ 32 }
+    requires one_each { length sets.now.values ≡ length wanted.now.circuit.now.joints }
+    requires numbers { let net = net_of P.behaviour wanted.now.circuit.now in
+        AreInSupply net (in_wanted wanted.now) wanted.now.supply.now.items
+        (listed sets.now.values) }
+    requires one { let net = net_of P.behaviour wanted.now.circuit.now in
+        OneAtLoops net (in_wanted wanted.now) (listed sets.now.values) }
+    ensures first { let net = net_of P.behaviour wanted.now.circuit.now in
+        let names = names_of wanted.now.supply.now.items in
+        IfOk result (λ found. MatchOption found (HasNoAssignment net names (in_wanted wanted.now)
+        (listed sets.now.values)) (IsFirstPart net names (in_wanted wanted.now) wanted.now.turn
         (listed sets.now.values))) }
     ensures ticks { steps.new ≡ steps.old + 1 }
 {
     steps.tick();
-    let ends = ends_of(alloc, circuit)?;
-    let boards = boards_of(alloc, circuit, &ends)?;
+    let ends = ends_of(alloc, wanted.circuit)?;
+    let boards = boards_of(alloc, wanted.circuit, &ends)?;
     let basis = Basis {
-        circuit,
+        circuit: wanted.circuit,
         boards: &boards,
         ends: &ends,
-        items: supply.lists(),
+        items: wanted.supply.lists(),
     };
-    arrange_by(alloc, &basis, knots, sets, knot, turn)
+    arrange_by(alloc, &basis, wanted.knots, sets, wanted.knot, wanted.turn)
 }

@@ -9,6 +9,7 @@ mod pinning;
 mod place;
 mod places;
 mod walking;
+mod wanted;
 
 pub use arranging::{arrange, first_by};
 pub use part::{Part, part_of};
@@ -16,3 +17,4 @@ pub use pinning::pin;
 pub use place::KeyPlace;
 pub use places::places_of;
 pub use walking::walk;
+pub use wanted::Wanted;

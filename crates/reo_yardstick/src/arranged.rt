@@ -3,19 +3,19 @@ ghost use Rattle.std.specs.Prelude.{◌≡◌, ◌<◌, length};
 ghost use Rattle.reo_net_base.specs.Net.{net_of};
 ghost use Rattle.reo_net_base.specs.Colouring.{IsColouring};
 ghost use Rattle.reo_kinds.specs.Kinds.{behaviour_of};
-ghost use Rattle.reo_net_laws.specs.Knots.{AreKnots, knot_count};
 ghost use Rattle.reo_reach.specs.Supplied.{AreShort, IsSupply};
+ghost use Rattle.reo_walk.specs.Wanted.{IsWanted};
 
 use crate::bounds::{are_within, loops_are_single};
 use crate::sets::sets_of;
 use crate::tally::{SearchTally, count};
 use reo_kinds::Kind;
-use reo_knots::{Knots, find_knots};
+use reo_knots::find_knots;
 use reo_net_base::Colouring;
 use reo_net_circuit::Circuit;
 use reo_propagate::Sets;
-use reo_reach::{Supply, reach};
-use reo_search::{Part, arrange};
+use reo_reach::reach;
+use reo_search::{Part, Wanted, arrange};
 use reo_steps::Steps;
 use reo_values::NoMemory;
 use std::alloc::Global;
@@ -65,26 +65,29 @@ fn is_of(circuit: &Circuit<Kind>, part: &Option<Part>, sides: &[usize], plain: &
 /// Whether the first assignment of a part with values in some sets has the rows of a colouring.
 fn agrees<L: Ledger>(
     alloc: Global,
-    circuit: &Circuit<Kind>,
-    knots: &Knots,
-    supply: &Supply,
+    wanted: &Wanted<'_, Kind>,
     sets: &Sets,
     plain: &Colouring,
-    knot: usize,
-    turn: u64,
     steps: &mut Steps<L>,
 ) -> Result<bool, NoMemory>
-    requires knots { AreKnots (net_of behaviour_of circuit.now) knots.now }
-    requires knot { knot < knot_count knots.now }
-    requires supply { IsSupply (net_of behaviour_of circuit.now) supply.now }
-    requires short { AreShort supply.now }
-    requires plain { IsColouring (net_of behaviour_of circuit.now) plain.now.rows plain.now.items }
+    requires wanted { IsWanted (net_of behaviour_of wanted.now.circuit.now) wanted.now }
+    requires supply { IsSupply (net_of behaviour_of wanted.now.circuit.now) wanted.now.supply.now }
+    requires short { AreShort wanted.now.supply.now }
+    requires plain { IsColouring (net_of behaviour_of wanted.now.circuit.now) plain.now.rows
+        plain.now.items }
 {
-    if !are_within(supply.lists(), sets) || !loops_are_single(knots, sets, knot) {
+    if !are_within(wanted.supply.lists(), sets)
+        || !loops_are_single(wanted.knots, sets, wanted.knot)
+    {
         return Ok(false);
     }
-    let part = arrange(alloc, circuit, knots, supply, sets, knot, turn, steps)?;
-    Ok(is_of(circuit, &part, knots.sides(knot), plain))
+    let part = arrange(alloc, wanted, sets, steps)?;
+    Ok(is_of(
+        wanted.circuit,
+        &part,
+        wanted.knots.sides(wanted.knot),
+        plain,
+    ))
 }
 
 /// Arranges all parts of a circuit, with the values of its first colouring at the loop joints:
@@ -103,9 +106,14 @@ pub fn all_arranged<L: Ledger>(
     let supply = reach(alloc, circuit)?;
     let sets = sets_of(alloc, circuit, &knots, &supply, plain)?;
     for knot in 0..knots.count() {
-        if !agrees(
-            alloc, circuit, &knots, &supply, &sets, plain, knot, turn, steps,
-        )? {
+        let wanted = Wanted {
+            circuit,
+            knots: &knots,
+            supply: &supply,
+            knot,
+            turn,
+        };
+        if !agrees(alloc, &wanted, &sets, plain, steps)? {
             return Ok(false);
         }
         count(&mut tally.arranged, true);

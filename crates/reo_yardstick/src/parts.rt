@@ -1,36 +1,27 @@
 //! Parts that are counted.
-ghost use Rattle.std.specs.Prelude.{◌<◌};
 ghost use Rattle.reo_net_base.specs.Net.{net_of};
 ghost use Rattle.reo_kinds.specs.Kinds.{behaviour_of};
-ghost use Rattle.reo_net_laws.specs.Knots.{AreKnots, knot_count};
 ghost use Rattle.reo_reach.specs.Supplied.{AreShort, IsSupply};
+ghost use Rattle.reo_walk.specs.Wanted.{IsWanted};
 
 use crate::tally::{SearchTally, count};
 use reo_kinds::Kind;
-use reo_knots::{Knots, find_knots};
+use reo_knots::find_knots;
 use reo_net_circuit::Circuit;
-use reo_reach::{Supply, reach};
-use reo_search::{Exceeds, first};
+use reo_reach::reach;
+use reo_search::{Exceeds, Wanted, first};
 use reo_steps::Steps;
 use reo_values::NoMemory;
 use std::alloc::Global;
 use std::sync::ledger::Ledger;
 
 /// The weight of a part, which is told where a budget of 1 is spent.
-fn weight_of<L: Ledger>(
-    alloc: Global,
-    circuit: &Circuit<Kind>,
-    knots: &Knots,
-    supply: &Supply,
-    knot: usize,
-    steps: &mut Steps<L>,
-) -> u64
-    requires knots { AreKnots (net_of behaviour_of circuit.now) knots.now }
-    requires knot { knot < knot_count knots.now }
-    requires supply { IsSupply (net_of behaviour_of circuit.now) supply.now }
-    requires short { AreShort supply.now }
+fn weight_of<L: Ledger>(alloc: Global, wanted: &Wanted<'_, Kind>, steps: &mut Steps<L>) -> u64
+    requires wanted { IsWanted (net_of behaviour_of wanted.now.circuit.now) wanted.now }
+    requires supply { IsSupply (net_of behaviour_of wanted.now.circuit.now) wanted.now.supply.now }
+    requires short { AreShort wanted.now.supply.now }
 {
-    match first(alloc, circuit, knots, supply, knot, 1, 1, steps) {
+    match first(alloc, wanted, 1, steps) {
         Err(Exceeds::Spent { weight, .. }) => weight,
         _ => 1,
     }
@@ -48,7 +39,14 @@ pub fn count_parts<L: Ledger>(
     for knot in 0..knots.count() {
         count(&mut tally.parts, true);
         count(&mut tally.loops, !knots.loop_joints(knot).is_empty());
-        let weight = weight_of(alloc, circuit, &knots, &supply, knot, steps);
+        let wanted = Wanted {
+            circuit,
+            knots: &knots,
+            supply: &supply,
+            knot,
+            turn: 1,
+        };
+        let weight = weight_of(alloc, &wanted, steps);
         count(&mut tally.heavy, 1 < weight);
         tally.greatest = tally.greatest.max(weight);
     }

@@ -11,7 +11,7 @@ use reo_net_circuit::Circuit;
 use reo_net_laws::knot_jams_exactly;
 use reo_open::Open;
 use reo_reach::reach;
-use reo_search::{Exceeds, first};
+use reo_search::{Exceeds, Wanted, first};
 use reo_steps::Steps;
 use reo_values::NoMemory;
 use reo_weights::weight_is_one;
@@ -48,7 +48,14 @@ pub(crate) fn meets<L: Ledger>(
     knot_jams_exactly();
     weight_is_one();
     let supply = reach(alloc, circuit)?;
-    match first(alloc, circuit, knots, &supply, part, 1, budget, steps) {
+    let wanted = Wanted {
+        circuit,
+        knots,
+        supply: &supply,
+        knot: part,
+        turn: 1,
+    };
+    match first(alloc, &wanted, budget, steps) {
         Ok(found) => Ok(!found.jammed),
         Err(fault) => Err(only_memory(fault)),
     }

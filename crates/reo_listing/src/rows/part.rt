@@ -17,7 +17,7 @@ use reo_net_circuit::Circuit;
 use reo_net_laws::knot_jams_exactly;
 use reo_open::Open;
 use reo_reach::reach;
-use reo_search::{Exceeds, first};
+use reo_search::{Exceeds, Wanted, first};
 use reo_steps::Steps;
 use reo_values::List;
 use std::alloc::Global;
@@ -49,7 +49,14 @@ fn begin<L: Ledger>(
     circuit.known();
     knot_jams_exactly();
     let supply = reach(alloc, circuit)?;
-    match first(alloc, circuit, knots, &supply, part, 1, budget, steps) {
+    let wanted = Wanted {
+        circuit,
+        knots,
+        supply: &supply,
+        knot: part,
+        turn: 1,
+    };
+    match first(alloc, &wanted, budget, steps) {
         Ok(found) => Ok(!found.jammed),
         Err(Exceeds::Spent { knot, weight }) => Err(ListFault::Spent { part: knot, weight }),
         Err(Exceeds::Wide { .. }) => unreachable!(),

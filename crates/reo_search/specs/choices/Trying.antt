@@ -6,7 +6,6 @@ use Rattle.std.specs.Cmp.Lexicographic.{slice_cmp}
 use Rattle.reo_values.specs.declared.value.Value.{Value}
 use Rattle.reo_net_base.specs.Net.{Net}
 use Rattle.reo_net_base.specs.Sides.{side_count}
-use Rattle.reo_net_laws.specs.Parts.{IsKnot}
 use Rattle.reo_weights.specs.Weights.{all_values}
 use Rattle.reo_joint_values.specs.Values.{Names, Choice}
 use Rattle.reo_joint_values.specs.Chosen.{IsChosen}
@@ -16,10 +15,9 @@ use Rattle.reo_rows.specs.Rows.{AreTables}
 use Rattle.reo_rows.specs.RowFlags.{flag}
 use Rattle.reo_rows.specs.Sets.{code_of, family_of, IsReady}
 use Rattle.reo_propagate.specs.declared.state.State.{State}
-use Rattle.reo_propagate.specs.Queues.{among}
 use Rattle.reo_walk.specs.declared.place.KeyPlace.{KeyPlace}
-use Rattle.reo_walk.specs.Places.{numbers, side_of_place}
-use Rattle.reo_search.specs.choices.Remaining.{AreLoopsIn, choices_of}
+use Rattle.reo_walk.specs.Places.{numbers}
+use Rattle.reo_search.specs.choices.Remaining.{choices_of}
 
 -- A search may begin anew with these tables.
 pub record MayRestart (net : Net) (boards : List Board) (ends : List (List ℕ)) (items : List (List Value)) (state : State) : Type 0 where
@@ -30,14 +28,6 @@ pub record MayRestart (net : Net) (boards : List Board) (ends : List (List ℕ))
 -- A search on this may begin anew with these tables.
 abbrev pub MayRestartOn : {P : Type 0} → Net → Basis P → State → Type 0
 MayRestartOn net basis = MayRestart net basis.boards.now basis.ends.now basis.items.now
-
--- Some sides are a knot, and these are places there and its loop joints.
-pub record AreOfKnot (net : Net) (sides : List ℕ) (places : List KeyPlace) (loops : List ℕ) : Type 0 where
-  pub knot : IsKnot net (among sides)
-  pub sides_are : (s : ℕ) → among sides s ≡ true → s < side_count net
-  pub some_side : 0 < length sides
-  pub places_are : (k : ℕ) (d : KeyPlace) → k < length places → among sides (side_of_place (slice_index_or places k d)) ≡ true
-  pub loops_are : AreLoopsIn net (among sides) loops
 
 -- Of the assignments of which something holds, one that is first by the numbers at some places.
 pub record IsLeastOf (Of : (ℕ → ℕ) → Choice → Type 0) (net : Net) (turn : ℕ) (places : List KeyPlace) (chosen : List ℕ) : Type 0 where

@@ -61,7 +61,7 @@ fn times(weight: u64, count: usize) -> u64
 
 /// How many choices there are of one of each list, at most the greatest weight. This takes no
 /// memory.
-pub fn weight_of(left: &List<List<usize>>) -> u64
+pub(crate) fn weight_of(left: &List<List<usize>>) -> u64
     ensures { result ≡ capped (choices_of left.now) }
 {
     let mut weight = 1;
@@ -73,7 +73,7 @@ pub fn weight_of(left: &List<List<usize>>) -> u64
 
 /// Narrows all values at these sides, and tells what is left at some joints. `NoMemory` is out of
 /// memory.
-pub fn narrow_all<P: Primitive>(
+pub(crate) fn narrow_all<P: Primitive>(
     alloc: Global,
     basis: &Basis<'_, P>,
     sides: &[usize],

@@ -8,4 +8,4 @@ pub arrange-requires-clause-one : goal.arrange-requires-clause-one
 arrange-requires-clause-one g c =
     let single : IsTrue c.are_single-single.result = search in
     let loops = subst (λ (l : List ℕ). AreSingle c.in-Ok.sets.values (length l) l) c.loop_joints.ensures (c.are_single-single.ensures single) in
-    one_each (net_of g.P.Primitive.behaviour c.args.circuit.now) c.args.knots.now 0 c.in-Ok.sets.values c.requires.knots c.requires.some loops
+    one_each (net_of g.P.Primitive.behaviour c.args.wanted.now.circuit.now) c.args.wanted.now.knots.now c.args.wanted.now.knot c.in-Ok.sets.values c.requires.knots c.requires.knot loops

@@ -7,4 +7,4 @@ use Rattle.reo_yardstick.proofs.arranged.agrees.Goals as goal
 pub arrange-requires-clause-one : goal.arrange-requires-clause-one
 arrange-requires-clause-one g c =
     let single : IsTrue c.loops_are_single.result = search in
-    one_each (net_of behaviour_of c.args.circuit.now) c.args.knots.now c.args.knot c.args.sets.now.values c.requires.knots c.requires.knot (c.loops_are_single.ensures single)
+    one_each (net_of behaviour_of c.args.wanted.now.circuit.now) c.args.wanted.now.knots.now c.args.wanted.now.knot c.args.sets.now.values c.requires.wanted.knots c.requires.wanted.knot (c.loops_are_single.ensures single)
