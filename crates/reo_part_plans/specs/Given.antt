@@ -1,7 +1,7 @@
 -- The items that the state gives at the sides of a part.
-use Rattle.std.specs.Prelude.{ℕ, ◌<◌, ◌≡◌, ◌⊎◌, true, List, Option, Some, None, length, slice_index, slice_index_or}
+use Rattle.std.specs.Prelude.{ℕ, ◌<◌, ◌≡◌, ◌⊎◌, List, Option, Some, None, length, slice_index, slice_index_or}
 use Rattle.reo_values.specs.declared.value.Value.{Value}
-use Rattle.reo_net_base.specs.Behaviour.{Behaviour, IsEndOf}
+use Rattle.reo_net_base.specs.Behaviour.{Behaviour}
 use Rattle.reo_net_base.specs.Lawful.{GivesAt}
 use Rattle.reo_net_base.specs.Net.{Net, Side, all_sides}
 use Rattle.reo_net_laws.specs.state_laws.States.{LetsIn}

@@ -1,6 +1,5 @@
 -- Lists of the joints that flow, part by part.
 use Rattle.std.proofs.Common.{◌≡◌, ◌≢◌, ◌∙◌, inl, inr, ℕ, ◌+◌, ◌<◌, ◌≤◌, Bool, true, List, [], length, get_or, get_or-set_same, get_or-set_other, set, refl, ap, sym, subst, arith}
-use Rattle.std.specs.Prelude.{Result, Ok, Err, OnOk}
 use Rattle.std.proofs.lemmas.List.{length-set}
 use Rattle.std.proofs.lemmas.List.Elements.{Contains-get_or}
 use Rattle.reo_net_base.specs.Behaviour.{Behaviour}
