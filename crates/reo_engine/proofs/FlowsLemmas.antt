@@ -1,12 +1,12 @@
 -- What a round that stands is made with, when a circuit changes.
-use Rattle.std.proofs.Common.{◌≡◌, ◌≢◌, ◌∙◌, inl, inr, ℕ, ◌+◌, ◌<◌, ◌≤◌, Bool, true, false, not, List, [], ◌∷◌, length, get_or, refl, ap, sym, subst, arith}
-use Rattle.std.specs.Prelude.{Option, Some, None, nat_le, nat_lt, ◌==◌, ◌⊎◌, if◌then◌else◌}
-use Rattle.std.proofs.lemmas.Bool.{and_from, cases_Bool}
+use Rattle.std.proofs.Common.{◌≡◌, ◌≢◌, ◌∙◌, inl, inr, ℕ, ◌+◌, ◌<◌, Bool, true, false, not, List, [], ◌∷◌, length, get_or, refl, ap, sym, subst, arith}
+use Rattle.std.specs.Prelude.{Option, None, nat_le, ◌==◌, if◌then◌else◌}
+use Rattle.std.proofs.lemmas.Bool.{cases_Bool}
 use Rattle.std.proofs.lemmas.Bool.Decides.{nat_tests}
 use Rattle.std.proofs.lemmas.Grind.{same_number_lists}
 use Rattle.std.proofs.lemmas.List.{get_or_default}
 use Rattle.reo_values.specs.declared.value.Value.{Value}
-use Rattle.reo_values.proofs.Truths.{and_right, not_both}
+use Rattle.reo_values.proofs.Truths.{and_right}
 use Rattle.reo_net_base.specs.declared.joint.Joint.{Joint}
 use Rattle.reo_net_base.specs.Behaviour.{Behaviour}
 use Rattle.reo_net_base.specs.Net.{Net, Side, all_sides, behaviour_at, mark_at, no_side, row_count}
@@ -15,23 +15,23 @@ use Rattle.reo_net_base.specs.Sides.{side_count}
 use Rattle.reo_net_base.specs.Wired.{IsWired, IsOrder}
 use Rattle.reo_net_base.specs.Colouring.{IsColouring, RowsFit}
 use Rattle.reo_net_base.proofs.Marks.{flow_cases}
-use Rattle.reo_net_circuit.proofs.Cases.{eq_cases, lt_cases}
+use Rattle.reo_net_circuit.proofs.Cases.{lt_cases}
 use Rattle.reo_net_circuit.proofs.ReshapeLemmas.{first_same}
 use Rattle.reo_net_laws.specs.Jams.{jams}
 use Rattle.reo_net_laws.proofs.Jams.{jams_whole}
 use Rattle.reo_net_laws.proofs.OneFirst.{one_inside}
 use Rattle.reo_net_laws.proofs.Sides.{Owner, owner_of, owner_side}
 use Rattle.reo_trace.specs.declared.cells.cells.Cells.{Cells}
-use Rattle.reo_trace.specs.cells.Cells.{AreCells, AreShown, IsShown, code_at}
+use Rattle.reo_trace.specs.cells.Cells.{AreCells, AreShown, code_at}
 use Rattle.reo_trace.specs.cells.Texts.{jam_code}
 use Rattle.reo_trace.proofs.cells.Laid.{cells_same}
 use Rattle.reo_net_laws.specs.Knots.{Knotted, AreKnots, in_knot, knot_count}
 use Rattle.reo_flows.specs.flowing.Flowing.{AreFlowingIn, AreFlowingOf}
 use Rattle.reo_weights.proofs.still.Together.{parts_make_first}
-use Rattle.reo_mark_search.proofs.Parts.{side_here, side_listed}
+use Rattle.reo_mark_search.proofs.Parts.{side_here}
 use Rattle.reo_weights.proofs.CauseLemmas.{within_not_over}
 use Rattle.reo_settling.specs.Plannings.{Kept, AllServe, IsKept, is_settled, ArePlanned, AreFewer, IsElsewhere, part_at}
-use Rattle.reo_settling.proofs.Plannings.{told_by_joints, number_is, all_served, count_same}
+use Rattle.reo_settling.proofs.Plannings.{told_by_joints, all_served, count_same}
 use Rattle.reo_joint_values.specs.Standing.{giver_of, no_joint}
 use Rattle.reo_flows.specs.stepping.Clearing.{ComesNoItem}
 use Rattle.reo_flows.specs.stepping.Flowing.{AreFlowing}

@@ -1,5 +1,5 @@
 -- The primitives that a round goes to, of those that are marked.
-use Rattle.std.proofs.Common.{◌≡◌, ◌≢◌, ◌∙◌, inl, inr, ℕ, zero, suc, ◌+◌, ◌<◌, Bool, true, false, List, [], ◌∷◌, Option, length, map, get_or, set, ap, sym, subst, refl, arith}
+use Rattle.std.proofs.Common.{◌≡◌, ◌∙◌, inl, inr, ℕ, zero, suc, ◌+◌, ◌<◌, Bool, true, false, List, [], ◌∷◌, Option, length, map, get_or, set, ap, sym, refl, arith}
 use Rattle.std.specs.Prelude.{◌||◌, ◌==◌}
 use Rattle.std.proofs.lemmas.Bool.{cases_Bool, cases_eq}
 use Rattle.std.proofs.lemmas.List.{get_or-map, get_or-set_other, get_or-set_same, length-map}
@@ -7,10 +7,10 @@ use Rattle.reo_values.specs.declared.value.Value.{Value}
 use Rattle.reo_values.proofs.Truths.{not_both, or_true}
 use Rattle.reo_flags.specs.Where.{AreKeptWhere}
 use Rattle.reo_net_base.specs.declared.colouring.Chosen.{Chosen}
-use Rattle.reo_net_base.specs.Behaviour.{Behaviour, nothing}
+use Rattle.reo_net_base.specs.Behaviour.{Behaviour}
 use Rattle.reo_net_base.specs.Lasting.{Lasting}
 use Rattle.reo_net_base.specs.Lawful.{SameShape}
-use Rattle.reo_net_base.specs.Net.{Net, Wiring, net_of, behaviour_at}
+use Rattle.reo_net_base.specs.Net.{Wiring, net_of, behaviour_at}
 use Rattle.reo_net_base.specs.Step.{change_at, settled_list}
 use Rattle.reo_net_laws.specs.Knots.{Knotted}
 use Rattle.reo_settling.specs.Plannings.{Kept, AreBetweenUnsettled}

@@ -1,6 +1,6 @@
 -- A round that is made is the round of the circuit.
-use Rattle.std.proofs.Common.{ℕ, refl, ap}
-use Rattle.reo_net_base.specs.Net.{Wiring, net_of}
+use Rattle.std.proofs.Common.{refl, ap}
+use Rattle.reo_net_base.specs.Net.{net_of}
 use Rattle.reo_trace.specs.declared.line.RoundLine.{RoundLine}
 use Rattle.reo_trace.specs.Entries.{line_for}
 use Rattle.reo_rounds.specs.Rules.{Rules}

@@ -1,5 +1,5 @@
 -- The primitives that a round goes to.
-use Rattle.std.specs.Prelude.{ℕ, ◌≡◌, ◌||◌, ◌==◌, Bool, List, length, map}
+use Rattle.std.specs.Prelude.{◌≡◌, ◌||◌, ◌==◌, Bool, List, length, map}
 use Rattle.reo_net_base.specs.Behaviour.{Behaviour}
 use Rattle.reo_net_base.specs.Lasting.{Lasting}
 use Rattle.reo_engine.specs.declared.goers.Goers.{Goers}

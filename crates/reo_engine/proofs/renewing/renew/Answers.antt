@@ -1,7 +1,5 @@
-use Rattle.std.proofs.Common.{subst, sym}
 use Rattle.reo_net_base.specs.Net.{net_of}
 use Rattle.reo_settling.specs.Plannings.{is_open}
-use Rattle.reo_engine.specs.Flows.{MayBeRows}
 use Rattle.reo_engine.proofs.FlowsLemmas.{told_by_test}
 use Rattle.reo_engine.proofs.renewing.renew.Goals as goal
 

@@ -2,7 +2,6 @@ use Rattle.std.proofs.Common.{◌∙◌, ℕ, List, length, ap, sym, subst, arit
 use Rattle.std.specs.Prelude.{Some}
 use Rattle.reo_net_base.specs.Net.{Net, net_of}
 use Rattle.reo_net_base.specs.Colouring.{IsColouring}
-use Rattle.reo_settling.specs.Plannings.{Kept}
 use Rattle.reo_engine.specs.Flows.{AreFlaggedShown, MayBeRows}
 use Rattle.reo_engine.proofs.FlowsLemmas.{all_renewed, all_shown, all_written, flows_unshown, flows_shown, served_settled}
 use Rattle.reo_engine.proofs.renewing.renew_marked.Goals as goal

@@ -1,4 +1,4 @@
-use Rattle.std.proofs.Common.{◌∙◌, List, map, ap, refl, arith}
+use Rattle.std.proofs.Common.{◌∙◌, map, ap, refl, arith}
 use Rattle.std.proofs.lemmas.List.{length-map}
 use Rattle.reo_net_base.specs.Net.{Wiring, net_of}
 use Rattle.reo_engine.specs.Goers.{is_keeper}

@@ -1,4 +1,4 @@
-use Rattle.std.proofs.Common.{◌≡◌, ◌∙◌, ℕ, Bool, List, false, length, map, ap, sym, arith}
+use Rattle.std.proofs.Common.{◌∙◌, false, length, map, ap, sym, arith}
 use Rattle.std.proofs.lemmas.List.{ext_get_or, length-map, length-replicate, length-set}
 use Rattle.reo_engine.specs.Goers.{is_keeper}
 use Rattle.reo_engine.proofs.Going.{one_more}

@@ -1,4 +1,3 @@
-use Rattle.std.proofs.Common.{◌∙◌, Bool, List, length, ap}
 use Rattle.reo_engine.proofs.goers.Goers.note.Goals as goal
 
 pub returns-clause-going : goal.returns-clause-going
