@@ -1,4 +1,5 @@
 -- Lines that are written one after another.
+use Rattle.std.specs.Prelude.{Result, Ok, Err, OnOk}
 use Rattle.std.proofs.Common.{◌≡◌, ℕ, ◌+◌, List, [], ◌∷◌, ◌++◌, ap, sym, ◌∙◌, subst, append_assoc, arith}
 use Rattle.std.proofs.lemmas.List.{append-nil}
 use Rattle.std.proofs.lemmas.List.Concat.{flat_map-append}
@@ -14,6 +15,8 @@ use Rattle.reo_refute_base.specs.Steps.{AreSteps}
 use Rattle.reo_refute_base.specs.Steps.AreSteps.{none as steps_stop, more as steps_more}
 use Rattle.reo_refute_base.specs.Texts.{IsNumbered, line_text, log_text}
 use Rattle.reo_refute_base.proofs.laws.Reading.{branches_are_read}
+use Rattle.reo_refute.specs.declared.check.lines.Lines.{Lines}
+use Rattle.reo_refute.specs.check.Judging.{IsBranchRead}
 use Rattle.reo_refute.proofs.check.Determined.{steps_join}
 use Rattle.reo_refute.proofs.check.Passing.{pass_live, pass_dead, pass_both, pass_none}
 use Rattle.reo_refute.proofs.check.Taking.{all_one}
@@ -58,6 +61,31 @@ module _ (net : Net) (lists : Lists) (allowed : ℕ → ℕ → Type 0) where
     written = written_both start old new l.lines (s.line ∷ []) l.written s.written;
     steps = steps_join net lists allowed (all_live lists ∷ []) before after l.lines (s.line ∷ []) l.steps (steps_more before after after s.line [] s.leads.step (steps_stop after));
   }
+
+-- What holds where a call succeeds holds there in what it leads to.
+pub done_more : {X E : Type 0} (r : Result X E) (A B : Type 0) → OnOk r A → (A → B) → OnOk r B
+done_more (Ok x) A B h f = f h
+done_more (Err e) A B h f = h
+
+-- A text that was read to its end as a branch.
+pub read_made : (net : Net) (lists : Lists) (allowed : ℕ → ℕ → Type 0) (old new : Lines) (text : List ℕ) → old.left ≡ text → new.left ≡ [] → IsBranchRead net lists allowed old new
+    → IsBranchMade net lists allowed [] text
+read_made net lists allowed old new text begun done r = record {
+  branch = r.branch;
+  written = record {
+    numbered = r.read.numbered;
+    text = sym begun ∙ r.read.text ∙ ap (λ (l : List ℕ). log_text r.branch ++ l) done ∙ append-nil (log_text r.branch);
+  };
+  is = r.is;
+}
+
+-- A branch that is added to a text.
+pub added_made : (net : Net) (lists : Lists) (allowed : ℕ → ℕ → Type 0) (old new text : List ℕ) → new ≡ old ++ text → IsBranchMade net lists allowed [] text → IsBranchMade net lists allowed old new
+added_made net lists allowed old new text added r = record {
+  branch = r.branch;
+  written = record { numbered = r.written.numbered; text = added ∙ ap (λ (l : List ℕ). old ++ l) r.written.text };
+  is = r.is;
+}
 
 -- A branch that was written to its end.
 pub branch_made : (net : Net) (turn : ℕ) (given : List ℕ) (lists : Lists) (p : ℕ) (old new : List ℕ) → Leads net lists (IsAllowed net turn given p) old new [] → IsBranchMade net lists (IsAllowed net turn given p) old new

@@ -1,7 +1,7 @@
 use Rattle.std.proofs.Common.{◌≡◌, Bool, true, false, cond, [], subst}
 use Rattle.reo_net_base.specs.Net.{Net, net_of}
 use Rattle.reo_refute_base.specs.Places.{IsAllowed}
-use Rattle.reo_refute_live.specs.Open.{open_in}
+use Rattle.reo_refute_live.specs.Open.{open_in, IsClosed}
 use Rattle.reo_refute.proofs.check.Taking.{Leads, leads_none, leads_more, branch_read, part_stops}
 use Rattle.reo_refute.proofs.check.part.check_part.Goals as goal
 
@@ -10,7 +10,7 @@ loop-open-init g c =
     let net : Net = net_of g.P.Primitive.behaviour c.args.judged.now.circuit.now in
     record {
       open_is = λ _. c.restart.ensures.open;
-      closed_is = λ no. absurd (let wrong : true ≡ false = no in cc);
+      closed_is = λ no. absurd {A = IsClosed c.args.judged.now.lists.now c.restart.new.self} (let wrong : true ≡ false = no in cc);
       leads = leads_none net c.args.judged.now.lists.now (IsAllowed net c.args.judged.now.turn c.args.judged.now.given.now c.args.judged.now.number) c.args.lines.now c.requires.short (open_in c.restart.new.self) c.restart.ensures.all;
     }
 

@@ -1,4 +1,4 @@
-use Rattle.std.proofs.Common.{◌<◌, ◌^◌, ◌≡◌, cond, [], length, ap, arith}
+use Rattle.std.proofs.Common.{◌<◌, ◌^◌, cond, [], length, ap, arith}
 use Rattle.reo_net_base.specs.Net.{Net, net_of}
 use Rattle.reo_net_base.specs.Sides.{side_count}
 use Rattle.reo_refute_base.specs.Places.{IsAllowed}

@@ -2,7 +2,7 @@ use Rattle.std.proofs.Common.{◌≡◌, ◌<◌, ℕ, List, true, false, Bool, 
 use Rattle.reo_net_base.specs.Net.{Net, net_of}
 use Rattle.reo_refute_base.specs.Places.{IsAllowed}
 use Rattle.reo_refute_base.specs.measure.Owed.{owed}
-use Rattle.reo_refute_live.specs.Open.{open_in}
+use Rattle.reo_refute_live.specs.Open.{open_in, IsClosed}
 use Rattle.reo_refute.proofs.proving.Writing.{Leads, leads_none, leads_more, branch_made}
 use Rattle.reo_refute.proofs.proving.branch.put_whole.Goals as goal
 
@@ -11,7 +11,7 @@ loop-open-init g c =
     let net : Net = net_of g.P.Primitive.behaviour c.args.judged.now.circuit.now in
     record {
       open_is = λ _. c.restart.ensures.open;
-      closed_is = λ no. absurd (let wrong : true ≡ false = no in cc);
+      closed_is = λ no. absurd {A = IsClosed c.args.judged.now.lists.now c.restart.new.self} (let wrong : true ≡ false = no in cc);
       leads = subst (λ (w : List ℕ). Leads net c.args.judged.now.lists.now (IsAllowed net c.args.judged.now.turn c.args.judged.now.given.now c.args.judged.now.number) [] w (open_in c.restart.new.self)) (sym c.clear.ensures) (leads_none net c.args.judged.now.lists.now (IsAllowed net c.args.judged.now.turn c.args.judged.now.given.now c.args.judged.now.number) [] (open_in c.restart.new.self) c.restart.ensures.all);
     }
 
