@@ -3,16 +3,16 @@ use Rattle.std.proofs.Common.{◌≡◌, ◌<◌, inl, inr, ℕ, List, Option, N
 use Rattle.reo_values.specs.declared.value.Value.{Value}
 use Rattle.reo_net_base.specs.Net.{Net}
 use Rattle.reo_net_laws.proofs.Orders.{no_joint}
-use Rattle.reo_net_laws.proofs.Sides.{below_or}
+use Rattle.std.proofs.lemmas.Bool.{cases_lt}
 use Rattle.reo_checker.specs.Faults.{IsJointFault, IsItemFault}
 use Rattle.reo_checker.proofs.ExactLemmas.{fails_fits}
 
 -- Numbers of which neither is below the other are one.
 pub not_apart : (i k : ℕ) → (i < k → ⊥) → (k < i → ⊥) → i ≡ k
 not_apart i k below above =
-    elim (below_or i k) [
+    elim (cases_lt i k) [
       | inl lt ↦ absurd (below lt)
-      | inr le ↦ elim (below_or k i) [ inl lt ↦ absurd (above lt) | inr ge ↦ omega (arith, le, ge) ]
+      | inr le ↦ elim (cases_lt k i) [ inl lt ↦ absurd (above lt) | inr ge ↦ omega (arith, le, ge) ]
     ]
 
 -- Of two first faults at joints, or of items, none stands before the other.

@@ -1,5 +1,5 @@
 -- Rounds that are drawn, one line after another.
-use Rattle.std.proofs.Common.{◌≡◌, ◌∙◌, ℕ, ◌+◌, ◌≤◌, Bool, true, false, cond, List, [], ◌∷◌, ◌++◌, length, refl, sym, ap, subst, arith, append_assoc, length-append}
+use Rattle.std.proofs.Common.{◌≡◌, ◌∙◌, ℕ, ◌+◌, Bool, true, false, cond, List, [], ◌∷◌, ◌++◌, length, refl, sym, ap, subst, arith, append_assoc, length-append}
 use Rattle.std.specs.Prelude.{◌==◌, Option, Some, None}
 use Rattle.std.proofs.lemmas.Bool.Decides.{nat_tests}
 use Rattle.reo_net_base.specs.declared.colouring.Colouring.{Colouring}
@@ -13,12 +13,12 @@ use Rattle.reo_runs.specs.at_ports.Kinds.{kind_rules}
 use Rattle.reo_verify.specs.Seeing.{StandsBehind}
 use Rattle.reo_verify.specs.judging.Judged.{IsColouringSaid, IsPlanShown}
 use Rattle.reo_draw_rounds.specs.Rounds.{round_picture}
-use Rattle.reo_draw_replay.specs.declared.drawing.Drawing.{Drawing}
+use Rattle.reo_draw_replay.specs.declared.drawing.Pictured.{Pictured}
 use Rattle.reo_draw_replay.specs.Drawn.{IsDrawn}
 use Rattle.reo_draw_replay.specs.Steps.{IsDrawnIf, IsDrawnWithin, HasDrawn}
 
 -- No line was replayed yet.
-pub drawn_none : (d : Drawing) (start : Place Kind) → d.picture ≡ None → HasDrawn d start [] d
+pub drawn_none : (d : Pictured) (start : Place Kind) → d.picture ≡ None → HasDrawn d start [] d
 drawn_none d start none = record {
   ports = refl;
   nodes = refl;
@@ -28,7 +28,7 @@ drawn_none d start none = record {
 }
 
 -- What was drawn is what was asked for first.
-pub drawn_of : (first now : Drawing) (start : Place Kind) (lines : List RoundLine) → HasDrawn first start lines now
+pub drawn_of : (first now : Pictured) (start : Place Kind) (lines : List RoundLine) → HasDrawn first start lines now
     → IsDrawnWithin first.ports.now.list first.nodes.now first.homes.now start lines (length lines) first.number now.picture
 drawn_of first now start lines has =
     subst (λ n. IsDrawnWithin first.ports.now.list first.nodes.now first.homes.now start lines (length lines) n now.picture) has.number
@@ -103,7 +103,7 @@ module _ (ports : List Port) (nodes : List (List ℕ)) (homes : List ℕ) where
         later after (λ at. other (omega (arith, at, turn_is))) (subst (λ (o : Option (List ℕ)). IsDrawnWithin ports nodes homes start lines (length lines) number o) (sym made) within)
 
 -- One line more, of which a plan is shown.
-pub drawn_more : (first old new : Drawing) (start : Place Kind) (lines : List RoundLine) (line : RoundLine) (w : Wiring Kind) (plan : Plan) → StandsBehind kind_rules start lines w → line.round ≡ length lines + 1
+pub drawn_more : (first old new : Pictured) (start : Place Kind) (lines : List RoundLine) (line : RoundLine) (w : Wiring Kind) (plan : Plan) → StandsBehind kind_rules start lines w → line.round ≡ length lines + 1
     → IsPlanShown (net_of kind_rules.behaviour w) w.ports line plan → (asked : Bool) → (line.round == old.number) ≡ asked
     → new ≡ record old { picture = cond asked (Some (round_picture w old.ports.now.list old.homes.now old.nodes.now line plan.colouring)) old.picture }
     → HasDrawn first start lines old → HasDrawn first start (lines ++ line ∷ []) new

@@ -8,7 +8,8 @@ use Rattle.reo_trace.specs.declared.line.RoundLine.{RoundLine}
 use Rattle.reo_rounds.specs.Rules.{Rules}
 use Rattle.reo_rounds.specs.Ready.{ready}
 use Rattle.reo_rounds.specs.Order.{HasOrder}
-use Rattle.reo_rounds.proofs.OrderLemmas.{KeepsShape, ready_order, round_order}
+use Rattle.reo_rounds.specs.Lasting.{KeepsShape}
+use Rattle.reo_rounds.proofs.OrderLemmas.{ready_order, round_order}
 use Rattle.reo_runs.specs.Round.{State, RoundOf, net_ready, advanced}
 use Rattle.reo_runs.specs.Run.{Place, Leads, place_after}
 use Rattle.reo_runs.specs.verdicts.Replays.{colourings}

@@ -13,7 +13,7 @@ use Rattle.reo_runs.specs.declared.verdicts.verdict.Refusal.TheVariants as refus
 use Rattle.reo_verify.specs.judging.Ends.{IsEndOf}
 use Rattle.reo_verify.specs.judging.Judged.{IsColouringSaid}
 use Rattle.reo_draw_rounds.specs.Rounds.{round_picture}
-use Rattle.reo_draw_replay.specs.declared.drawing.Drawing.{Drawing}
+use Rattle.reo_draw_replay.specs.declared.drawing.Pictured.{Pictured}
 use Rattle.reo_draw_replay.specs.declared.showing.Shown.{Shown}
 use Rattle.reo_draw_replay.specs.declared.showing.Shown.TheVariants as shown
 use Rattle.reo_draw_replay.specs.Drawn.{IsDrawn}
@@ -32,7 +32,7 @@ module _ (ports : List Port) (nodes : List (List ℕ)) (homes : List ℕ) where
   IsDrawnWithin start lines count number (Some picture) = IsDrawn ports nodes homes start lines number picture
 
 -- The picture of the round that was asked for, by the rounds that lines show from a start, or none where they have no such round; what is asked for stays.
-pub record HasDrawn (first : Drawing) (start : Place Kind) (lines : List RoundLine) (now : Drawing) : Type 0 where
+pub record HasDrawn (first : Pictured) (start : Place Kind) (lines : List RoundLine) (now : Pictured) : Type 0 where
   pub ports : now.ports.now ≡ first.ports.now
   pub nodes : now.nodes.now ≡ first.nodes.now
   pub homes : now.homes.now ≡ first.homes.now

@@ -10,7 +10,7 @@ ghost use Rattle.reo_runs.specs.at_ports.Kinds.{kind_rules};
 ghost use Rattle.reo_verify.specs.Seeing.{StandsBehind};
 ghost use Rattle.reo_verify.specs.judging.Judged.{IsPlanShown};
 ghost use Rattle.reo_draw_rounds.specs.Rounds.{round_picture};
-ghost use Rattle.reo_draw_replay.specs.declared.drawing.Drawing.{Drawing as ADrawing};
+ghost use Rattle.reo_draw_replay.specs.declared.drawing.Pictured.{Pictured as ADrawing};
 ghost use Rattle.reo_draw_replay.specs.Steps.{HasDrawn};
 
 use reo_draw_rounds::round_picture;
@@ -25,7 +25,7 @@ use std::alloc::Global;
 
 /// The picture of the round of a number, once that round was seen.
 #[derive(Drop)]
-pub(crate) struct Drawing<'a> {
+pub(crate) struct Pictured<'a> {
     pub ports: &'a Ports,
     pub nodes: &'a [Bytes],
     pub homes: &'a [u32],
@@ -63,7 +63,7 @@ fn draw_if(
 /// `NoMemory` is out of memory.
 fn see_round(
     alloc: Global,
-    drawing: &mut Drawing,
+    drawing: &mut Pictured,
     circuit: &Circuit<Kind>,
     line: &RoundLine,
     plan: &Plan,
@@ -89,7 +89,7 @@ fn see_round(
     Ok(())
 }
 
-impl<'a> Witness<Kind> for Drawing<'a> {
+impl<'a> Witness<Kind> for Pictured<'a> {
     ghost seen = { HasDrawn };
 
     fn see(

@@ -8,7 +8,7 @@ ghost use Rattle.reo_draw_replay.specs.declared.showing.Shown.{Shown as AShown};
 ghost use Rattle.reo_draw_replay.specs.Shown.{IsShown};
 ghost use Rattle.reo_draw_replay.specs.Steps.{IsShownAt};
 
-use crate::drawing::Drawing;
+use crate::drawing::Pictured;
 use crate::laws::one_round;
 use reo_flatten::Flat;
 use reo_kinds::Kind;
@@ -68,7 +68,7 @@ fn shown_of(
         IfOk result (IsShown ports.now.list nodes.now homes.now start trace.now number) }
 {
     let rounds = trace.rounds.as_slice();
-    let mut drawing = Drawing {
+    let mut drawing = Pictured {
         ports,
         nodes,
         homes,

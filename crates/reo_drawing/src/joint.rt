@@ -285,7 +285,7 @@ fn append_place(
 /// A joint as it is drawn: its number and the node that it is at, how lines go to the primitives on
 /// both sides, and the marks that are shown.
 #[derive(Clone, Copy)]
-pub(crate) struct Spot {
+pub(crate) struct DrawnJoint {
     pub number: usize,
     pub home: usize,
     pub joint: Joint,
@@ -299,7 +299,7 @@ pub(crate) struct Spot {
 fn append_spot(
     alloc: Global,
     text: &mut Bytes,
-    spot: Spot,
+    spot: DrawnJoint,
     item: Option<&Value>,
 ) -> Result<(), NoMemory>
     ensures { OnOk result (text.new ≡ text.old ++ spot_text spot.number spot.home spot.joint
@@ -313,7 +313,7 @@ fn append_spot(
 
 /// Adds the lines from a joint to the primitives on both sides.
 #[tactic(auto, unfolding(crate::specs::Joints::sides_text))]
-fn append_sides(alloc: Global, text: &mut Bytes, spot: Spot) -> Result<(), NoMemory>
+fn append_sides(alloc: Global, text: &mut Bytes, spot: DrawnJoint) -> Result<(), NoMemory>
     ensures { let first = giver_mark spot.marks in let second = taker_mark spot.marks in
         OnOk result (text.new ≡ text.old
         ++ sides_text spot.number spot.joint spot.giver spot.taker first second) }
@@ -339,7 +339,7 @@ fn append_sides(alloc: Global, text: &mut Bytes, spot: Spot) -> Result<(), NoMem
 pub(crate) fn append_joint(
     alloc: Global,
     text: &mut Bytes,
-    spot: Spot,
+    spot: DrawnJoint,
     item: Option<&Value>,
 ) -> Result<(), NoMemory>
     ensures { OnOk result (text.new ≡ text.old ++ joint_line spot.number spot.home spot.joint

@@ -2,7 +2,7 @@
 ghost use Rattle.std.specs.Prelude.{◌≡◌, ◌++◌, IfOk, OnOk, slice_get, slice_index_or, false, option_copied};
 ghost use Rattle.reo_drawing.specs.Pictures.{node_line, node_lines, name_of, primitive_lines, item_at, joint_lines, head_text, picture_text};
 
-use crate::joint::{Spot, append_joint};
+use crate::joint::{DrawnJoint, append_joint};
 use crate::label_texts::append_label;
 use crate::marks::JointMarks;
 use crate::strand::strand_of;
@@ -131,7 +131,7 @@ fn append_joints(
         ≡ text.old ++ joint_lines kinds.now homes.now marks.now items.now joints.now) }
 {
     for (number, joint) in joints.iter().enumerate() {
-        let spot = Spot {
+        let spot = DrawnJoint {
             number,
             home: home_at(homes, number),
             joint: *joint,

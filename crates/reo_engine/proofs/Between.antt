@@ -1,23 +1,21 @@
 -- The parts that are not settled any more after a round, by the primitives that stand between parts and by what moves.
 use Rattle.std.proofs.Common.{◌≡◌, ◌∙◌, inl, inr, ℕ, ◌+◌, ◌<◌, Bool, true, false, List, Option, length, get_or, ap, sym, arith}
-use Rattle.std.proofs.lemmas.Bool.{false_from_ne_true}
+use Rattle.std.proofs.lemmas.Bool.{false_from_ne_true, both_ways, cases_eq, cases_lt}
 use Rattle.std.proofs.lemmas.List.{get_or_past}
 use Rattle.reo_values.specs.declared.value.Value.{Value}
-use Rattle.reo_values.proofs.Truths.{not_both}
 use Rattle.reo_net_base.specs.declared.joint.End.{End}
 use Rattle.reo_net_base.specs.Behaviour.{Behaviour}
 use Rattle.reo_net_base.specs.First.{IsFirst}
 use Rattle.reo_net_base.specs.Net.{Net, behaviour_at, end_of, first_side, mark_at, side_at}
 use Rattle.reo_net_base.specs.Sides.{side_count}
 use Rattle.reo_net_base.specs.Wired.{IsWired, IsEnd, IsOrder}
-use Rattle.reo_net_circuit.proofs.Cases.{eq_cases, lt_cases}
 use Rattle.reo_net_laws.proofs.FirstInside.{first_inside}
 use Rattle.reo_net_laws.proofs.OneFirst.{one_inside}
 use Rattle.reo_net_laws.proofs.Sides.{side_at_place, side_in_range}
 use Rattle.reo_net_laws.specs.Knots.{Knotted, AreKnots, in_knot, knot_count}
 use Rattle.reo_weights.specs.still.Still.{IsStill}
 use Rattle.reo_settling.specs.Plannings.{Kept, IsKept, is_moving, is_settled, AreApart, AreBetweenUnsettled, AreFewer, AreMarkedUnsettled, AreMovingUnsettled, AreUnsettled, IsMarked, part_at}
-use Rattle.reo_settling.proofs.Plannings.{mark_same, number_is, fewer_none, fewer_twice}
+use Rattle.reo_engine.proofs.Plannings.{mark_same, number_is, fewer_none, fewer_twice}
 use Rattle.reo_flows.specs.stepping.Changes.{AreThoseThatFlowed, is_changed}
 use Rattle.reo_engine.proofs.Resting.{in_own}
 
@@ -29,9 +27,9 @@ module _ (net : Net) (wired : IsWired net) (order : List ℕ) (is_order : IsOrde
     (turn : ℕ) (rows : List ℕ) (items : List (Option Value)) (first : IsFirst net turn rows items) (kept : Kept) (is : IsKept net knots turn kept) where
   -- A part that is settled is one of the parts.
   settled_in : (k : ℕ) → is_settled kept k ≡ true → k < knot_count knots
-  settled_in k settled = elim (lt_cases k (length kept.settled)) [
+  settled_in k settled = elim (cases_lt k (length kept.settled)) [
     | inl lt ↦ omega (arith, lt, is.sizes.one_each)
-    | inr past ↦ absurd (not_both (is_settled kept k) (get_or_past kept.settled k false past) settled)
+    | inr past ↦ absurd (both_ways (is_settled kept k) (get_or_past kept.settled k false past) settled)
   ]
 
   -- On a settled part the rows that are kept are those of the first colouring.
@@ -68,8 +66,8 @@ module _ (net : Net) (wired : IsWired net) (order : List ℕ) (is_order : IsOrde
         let b : Behaviour = behaviour_at net.primitives i in
         let lawful = wired.lawful i i_in in
         let part : ℕ = part_at net knots i side in
-        false_from_ne_true (is_settled now part) (λ settled. elim (eq_cases b.sides 2) [
-          | inl two ↦ not_both (is_settled some part) (between.gone i lt (marked, two) side below) (moving.fewer.fewer part settled)
+        false_from_ne_true (is_settled now part) (λ settled. elim (cases_eq b.sides 2) [
+          | inl two ↦ both_ways (is_settled some part) (between.gone i lt (marked, two) side below) (moving.fewer.fewer part settled)
           | inr one ↦
               let flow = (flowed.each i i_in).0 marked in
               let e : End = end_of i flow.end in

@@ -1,12 +1,11 @@
 -- What a round that stands is made with, when a circuit changes.
 use Rattle.std.proofs.Common.{◌≡◌, ◌≢◌, ◌∙◌, inl, inr, ℕ, ◌+◌, ◌<◌, Bool, true, false, not, List, [], ◌∷◌, length, get_or, refl, ap, sym, subst, arith}
 use Rattle.std.specs.Prelude.{Option, None, nat_le, ◌==◌, if◌then◌else◌}
-use Rattle.std.proofs.lemmas.Bool.{cases_Bool}
+use Rattle.std.proofs.lemmas.Bool.{cases_Bool, and_parts, cases_lt}
 use Rattle.std.proofs.lemmas.Bool.Decides.{nat_tests}
 use Rattle.std.proofs.lemmas.Grind.{same_number_lists}
 use Rattle.std.proofs.lemmas.List.{get_or_default}
 use Rattle.reo_values.specs.declared.value.Value.{Value}
-use Rattle.reo_values.proofs.Truths.{and_right}
 use Rattle.reo_net_base.specs.declared.joint.Joint.{Joint}
 use Rattle.reo_net_base.specs.Behaviour.{Behaviour}
 use Rattle.reo_net_base.specs.Net.{Net, Side, all_sides, behaviour_at, mark_at, no_side, row_count}
@@ -15,7 +14,6 @@ use Rattle.reo_net_base.specs.Sides.{side_count}
 use Rattle.reo_net_base.specs.Wired.{IsWired, IsOrder}
 use Rattle.reo_net_base.specs.Colouring.{IsColouring, RowsFit}
 use Rattle.reo_net_base.proofs.Marks.{flow_cases}
-use Rattle.reo_net_circuit.proofs.Cases.{lt_cases}
 use Rattle.reo_net_circuit.proofs.ReshapeLemmas.{first_same}
 use Rattle.reo_net_laws.specs.Jams.{jams}
 use Rattle.reo_net_laws.proofs.Jams.{jams_whole}
@@ -31,7 +29,7 @@ use Rattle.reo_weights.proofs.still.Together.{parts_make_first}
 use Rattle.reo_mark_search.proofs.Parts.{side_here}
 use Rattle.reo_weights.proofs.CauseLemmas.{within_not_over}
 use Rattle.reo_settling.specs.Plannings.{Kept, AllServe, IsKept, is_settled, ArePlanned, AreFewer, IsElsewhere, part_at}
-use Rattle.reo_settling.proofs.Plannings.{told_by_joints, all_served, count_same}
+use Rattle.reo_engine.proofs.Plannings.{told_by_joints, all_served, count_same}
 use Rattle.reo_joint_values.specs.Standing.{giver_of, no_joint}
 use Rattle.reo_flows.specs.stepping.Clearing.{ComesNoItem}
 use Rattle.reo_flows.specs.stepping.Flowing.{AreFlowing}
@@ -141,7 +139,7 @@ first_items budget net wired knots are turn rows planned =
 pub held_among : (net : Net) → IsWired net → (rows : List ℕ) (items now : List (Option Value)) → IsColouring net rows items → (flowing : List ℕ) → AreFlowing net rows flowing → ComesNoItem items now → AreHeldAmong now flowing
 held_among net wired rows items now is flowing are none j some =
     let before : get_or items j None ≢ None = λ e. some (none.none j e) in
-    elim (lt_cases j (length net.joints)) [
+    elim (cases_lt j (length net.joints)) [
       | inl lt ↦ elim (flow_cases (mark_at net rows (giver_of net j))) [
         | inl flows ↦ are.each j lt (giver_flows net rows j lt flows)
         | inr not ↦ absurd (before (others_none net wired rows items is j lt (λ flows. not (flows no_joint))))
@@ -151,7 +149,7 @@ held_among net wired rows items now is flowing are none j some =
 
 -- Parts that serve are settled.
 pub served_settled : (kept : Kept) (budget count : ℕ) → AllServe count budget kept → (k : ℕ) → k < count → is_settled kept k ≡ true
-served_settled kept budget count all k lt = and_right (nat_le kept.budget budget) (is_settled kept k) (all k lt)
+served_settled kept budget count all k lt = (and_parts (nat_le kept.budget budget) (is_settled kept k) (all k lt)).1
 
 -- All parts are renewed where they serve.
 pub all_renewed : (budget : ℕ) (net : Net) → IsWired net → (knots : Knotted) → AreKnots net knots → (turn : ℕ) (new : Kept) → IsKept net knots turn new → AllServe (knot_count knots) budget new

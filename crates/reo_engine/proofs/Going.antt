@@ -1,10 +1,10 @@
 -- The primitives that a round goes to, of those that are marked.
 use Rattle.std.proofs.Common.{◌≡◌, ◌∙◌, inl, inr, ℕ, zero, suc, ◌+◌, ◌<◌, Bool, true, false, List, [], ◌∷◌, Option, length, map, get_or, set, ap, sym, refl, arith}
+use Rattle.std.proofs.Math.Bool.{or-true}
 use Rattle.std.specs.Prelude.{◌||◌, ◌==◌}
-use Rattle.std.proofs.lemmas.Bool.{cases_Bool, cases_eq}
+use Rattle.std.proofs.lemmas.Bool.{cases_Bool, cases_eq, both_ways}
 use Rattle.std.proofs.lemmas.List.{get_or-map, get_or-set_other, get_or-set_same, length-map}
 use Rattle.reo_values.specs.declared.value.Value.{Value}
-use Rattle.reo_values.proofs.Truths.{not_both, or_true}
 use Rattle.reo_flags.specs.Where.{AreKeptWhere}
 use Rattle.reo_net_base.specs.declared.colouring.Chosen.{Chosen}
 use Rattle.reo_net_base.specs.Behaviour.{Behaviour}
@@ -66,7 +66,7 @@ module _ {P : Type 0} (behaviour : P → Behaviour) (lasting : P → Lasting) wh
 
   two_told : (ps : List P) (i : ℕ) → (behaviour_at (map behaviour ps) i).sides ≡ 2 → get_or (map (is_keeper behaviour lasting) ps) i false ≡ true
   two_told [] i two = absurd cc
-  two_told (p ∷ ps) zero two = ap (λ (n : ℕ). (lasting p).keeps || (n == 2)) two ∙ or_true (lasting p).keeps
+  two_told (p ∷ ps) zero two = ap (λ (n : ℕ). (lasting p).keeps || (n == 2)) two ∙ or-true (lasting p).keeps
   two_told (p ∷ ps) (suc i) two = two_told ps i two
 
   module _ (w : Wiring P) (goers : Goers) (are : AreGoers behaviour lasting w.primitives goers) (marks going : List Bool) (kept : AreKeptWhere true goers.keepers marks going) where
@@ -95,5 +95,5 @@ module _ {P : Type 0} (behaviour : P → Behaviour) (lasting : P → Lasting) wh
         marked : (i : ℕ) → get_or going i false ≡ true → get_or marks i false ≡ true
         marked i goes = elim (cases_Bool (get_or goers.keepers i false)) [
           | inl h ↦ sym (kept.kept i h) ∙ goes
-          | inr h ↦ absurd (not_both (get_or going i false) (kept.gone i h) goes)
+          | inr h ↦ absurd (both_ways (get_or going i false) (kept.gone i h) goes)
         ]

@@ -9,3 +9,4 @@ pub mod Treating
 pub mod Going
 pub mod Resting
 pub mod MadeLemmas
+pub mod Plannings

@@ -1,19 +1,18 @@
 -- What is looked up of a circuit, when it changes.
 use Rattle.std.proofs.Common.{◌≡◌, ◌≢◌, ◌∙◌, inl, inr, ℕ, zero, suc, ◌+◌, ◌<◌, Bool, true, false, List, [], ◌∷◌, length, map, get_or, refl, ap, sym, subst, arith}
+use Rattle.std.proofs.lemmas.Bool.{both_ways, cases_eq}
 use Rattle.std.specs.Prelude.{Option, Some, None, slice_get}
 use Rattle.std.proofs.lemmas.List.{length-map}
-use Rattle.reo_values.proofs.Truths.{not_both}
 use Rattle.reo_net_base.specs.Behaviour.{Behaviour, nothing}
 use Rattle.reo_net_base.specs.Net.{Net, Wiring, net_of, behaviour_at}
 use Rattle.reo_net_base.specs.Lawful.{TreatsAlike}
 use Rattle.reo_net_base.specs.Shapes.{SameNetShape, TreatAlike}
 use Rattle.reo_net_base.specs.Step.{change_at}
 use Rattle.reo_net_base.specs.Wired.{IsWired}
-use Rattle.reo_net_circuit.proofs.Cases.{eq_cases}
 use Rattle.reo_net_circuit.specs.found_ends.Ends.{AreEnds}
 use Rattle.reo_net_laws.specs.Knots.{Knotted, AreKnots}
 use Rattle.reo_settling.specs.Plannings.{Kept, is_settled, IsKept, AreFewer, AreMarkedUnsettled, AreMovingUnsettled, IsElsewhere, IsUnsettled, part_at}
-use Rattle.reo_settling.proofs.Plannings.{kept_elsewhere, kept_fewer, kept_later, fewer_none, fewer_twice, knots_stay}
+use Rattle.reo_engine.proofs.Plannings.{kept_elsewhere, kept_fewer, kept_later, fewer_none, fewer_twice, knots_stay}
 use Rattle.reo_settling.specs.declared.lookups.Lookups.{Lookups}
 use Rattle.reo_settling.specs.Lookups.{AreLookups}
 use Rattle.reo_settling.proofs.HeldTables.{lookups_stay}
@@ -61,11 +60,11 @@ module _ {P : Type 0} (behaviour : P → Behaviour) where
       record {
         joints = shape.joints;
         shapes = shape.primitives;
-        same = λ i side i_in side_in settled. elim (eq_cases i port) [
+        same = λ i side i_in side_in settled. elim (cases_eq i port) [
           | inl e ↦
               let there : is_settled now (part_at net knots i side) ≡ false =
               subst (λ (k : ℕ). side < (behaviour_at net.primitives k).sides → is_settled now (part_at net knots k side) ≡ false) (sym e) (unsettled.gone side) side_in in
-              absurd (not_both (is_settled now (part_at net knots i side)) there settled)
+              absurd (both_ways (is_settled now (part_at net knots i side)) there settled)
           | inr ne ↦ ap (λ (w : Wiring P). behaviour_at (map behaviour w.primitives) i) is ∙ change_other f old.primitives port i ne
         ];
       }
@@ -99,7 +98,7 @@ module _ {P : Type 0} (behaviour : P → Behaviour) where
         shapes = shape.primitives;
         same = λ i side i_in side_in settled.
             let before = moving.fewer.fewer (part_at net knots i side) settled in
-            let not : is_changed marks i ≡ false = unmarked (is_changed marks i) (λ mark. not_both (is_settled some (part_at net knots i side)) (marked.gone i (omega (arith, count, one_each, i_in)) mark side side_in) before) in
+            let not : is_changed marks i ≡ false = unmarked (is_changed marks i) (λ mark. both_ways (is_settled some (part_at net knots i side)) (marked.gone i (omega (arith, count, one_each, i_in)) mark side side_in) before) in
             behaviour_is new.primitives i ∙ ap by_option (stay i not) ∙ sym (behaviour_is old.primitives i);
       }
     where

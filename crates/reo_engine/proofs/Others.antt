@@ -1,5 +1,6 @@
 -- Primitives of which no end flows stay.
 use Rattle.std.proofs.Common.{◌≡◌, ◌∙◌, inl, inr, ℕ, zero, suc, ◌<◌, Bool, List, [], ◌∷◌, length, map, get_or, ap, sym, refl, arith}
+use Rattle.std.proofs.lemmas.Bool.{cases_lt}
 use Rattle.std.specs.Prelude.{Option, Some, None, slice_get}
 use Rattle.std.proofs.lemmas.List.{length-map}
 use Rattle.std.proofs.lemmas.List.FromFn.{get_or-map-range_with_len, length-map-range_with_len}
@@ -12,7 +13,6 @@ use Rattle.reo_net_base.specs.Lawful.{IsQuiet}
 use Rattle.reo_net_base.specs.Net.{Net, Wiring, net_of, behaviour_at}
 use Rattle.reo_net_base.specs.Step.{all_chosen, all_taken, chosen_for, settled_list, stepped, taken_for}
 use Rattle.reo_net_base.specs.Wired.{IsWired}
-use Rattle.reo_net_circuit.proofs.Cases.{lt_cases}
 use Rattle.reo_flows.specs.stepping.Changes.{AreThoseThatFlowed}
 use Rattle.reo_flows.proofs.stepping.QuietLemmas.{IsStill, nothing_taken, quiet_rows}
 use Rattle.reo_engine.specs.Changes.{OthersStay}
@@ -55,7 +55,7 @@ module _ {P : Type 0} (behaviour : P → Behaviour) (settled : P → Chosen → 
       → AreThoseThatFlowed (net_of behaviour w) rows marks → after ≡ record w { primitives = stepped behaviour settled w rows items } → OthersStay marks w.primitives after.primitives
   others_stay w after rows items marks wired is flowed step i not =
       let count : length (net_of behaviour w).primitives ≡ length w.primitives = length-map w.primitives behaviour in
-      ap (λ (v : Wiring P). slice_get v.primitives i) step ∙ elim (lt_cases i (length w.primitives)) [
+      ap (λ (v : Wiring P). slice_get v.primitives i) step ∙ elim (cases_lt i (length w.primitives)) [
         | inl lt ↦ still_stays w rows items wired is i lt (λ flow. let mark = (flowed.each i (omega arith)).1 flow in absurd cc)
         | inr past ↦
             let same = stepped_count w rows items in

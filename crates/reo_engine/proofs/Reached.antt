@@ -1,5 +1,6 @@
 -- Primitives at joints with items.
 use Rattle.std.proofs.Common.{◌≡◌, ◌∙◌, ◌↔◌, inl, inr, ℕ, ◌+◌, ◌<◌, Bool, true, false, IsTrue, List, length, get_or, set, replicate, ap, sym, refl, arith}
+use Rattle.std.proofs.lemmas.Bool.{cases_eq}
 use Rattle.std.specs.Prelude.{Option, Some, None, is_some}
 use Rattle.std.proofs.lemmas.List.{get_or-replicate, length-set}
 use Rattle.reo_values.specs.declared.value.Value.{Value}
@@ -10,7 +11,6 @@ use Rattle.reo_net_base.specs.Colouring.{IsColouring, ItemFits}
 use Rattle.reo_net_base.specs.Net.{Net, end_of, mark_at}
 use Rattle.reo_net_base.specs.Wired.{IsWired}
 use Rattle.reo_net_base.proofs.Marks.{giver_flows}
-use Rattle.reo_net_circuit.proofs.Cases.{eq_cases}
 use Rattle.reo_net_laws.proofs.Joined.{joint_of}
 use Rattle.reo_flows.specs.stepping.Changes.{AreThoseThatFlowed, HasFlow, is_changed}
 use Rattle.reo_flows.proofs.stepping.FlowLemmas.{no_joint, IsBeside, set_both, with_item}
@@ -38,7 +38,7 @@ reached_still joints items n i old now none is before =
           let found = before.0 (sym same ∙ mark) in
           let below = found.before in
           record { joint = found.joint; before = omega arith; has_item = found.has_item; beside = found.beside },
-      λ reached. elim (eq_cases reached.joint n) [
+      λ reached. elim (cases_eq reached.joint n) [
         | inl e ↦ let some = rw e at reached.has_item in absurd cc
         | inr ne ↦
             let below = reached.before in
@@ -64,7 +64,7 @@ reached_more joints items n i j old made now some here same is lt before =
             let below = found.before in
             record { joint = found.joint; before = omega arith; has_item = found.has_item; beside = found.beside }
       ],
-      λ reached. elim (eq_cases reached.joint n) [
+      λ reached. elim (cases_eq reached.joint n) [
         | inl e ↦ both.1 (inl (rw (e, here) at reached.beside))
         | inr ne ↦
             let below = reached.before in

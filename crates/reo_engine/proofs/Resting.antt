@@ -1,16 +1,14 @@
 -- What is done at the sides of the parts that are not flagged, part by part.
 use Rattle.std.proofs.Common.{◌≡◌, ◌≢◌, ◌∙◌, inl, inr, ℕ, ◌+◌, ◌<◌, ◌≤◌, Bool, true, false, List, [], length, get_or, ap, sym, subst, arith}
 use Rattle.std.specs.Prelude.{nat_lt, ◌==◌}
-use Rattle.std.proofs.lemmas.Bool.{and_from}
+use Rattle.std.proofs.lemmas.Bool.{and_from, both_ways, cases_eq, cases_lt}
 use Rattle.std.proofs.lemmas.Bool.Decides.{nat_tests}
 use Rattle.std.proofs.lemmas.List.{get_or_default}
-use Rattle.reo_values.proofs.Truths.{not_both}
 use Rattle.reo_net_base.specs.Net.{Net}
 use Rattle.reo_net_base.specs.Sides.{side_count}
-use Rattle.reo_net_circuit.proofs.Cases.{eq_cases, lt_cases}
 use Rattle.reo_net_laws.specs.Knots.{Knotted, AreKnots, in_knot, knot_count}
 use Rattle.reo_mark_search.proofs.Parts.{side_here, side_listed}
-use Rattle.reo_settling.proofs.Plannings.{number_is}
+use Rattle.reo_engine.proofs.Plannings.{number_is}
 use Rattle.reo_engine.specs.Resting.{AreDoneAt, part_of}
 
 -- A side is in its own part.
@@ -28,9 +26,9 @@ done_none net knots flags Done Stays stays = record { here = λ s s_in lt clear.
 pub done_over : (net : Net) (knots : Knotted) (flags : List Bool) (n next : ℕ) → ((k : ℕ) → n ≤ k → k < next → get_or flags k false ≡ true) → (Done Stays : ℕ → Type 0) → AreDoneAt net knots flags n Done Stays
     → AreDoneAt net knots flags next Done Stays
 done_over net knots flags n next flagged Done Stays at = record {
-  here = λ s s_in below clear. elim (lt_cases (part_of knots s) n) [
+  here = λ s s_in below clear. elim (cases_lt (part_of knots s) n) [
     | inl lt ↦ at.here s s_in lt clear
-    | inr le ↦ absurd (not_both (get_or flags (part_of knots s) false) clear (flagged (part_of knots s) le below))
+    | inr le ↦ absurd (both_ways (get_or flags (part_of knots s) false) clear (flagged (part_of knots s) le below))
   ];
   others = at.others;
 }
@@ -41,7 +39,7 @@ pub done_more : (net : Net) (knots : Knotted) → AreKnots net knots → (flags 
     → ((m : ℕ) → m < length sides → Did (get_or sides m 0)) → ((s : ℕ) → Done s → Did s) → ((s : ℕ) → ((m : ℕ) → m < length sides → get_or sides m 0 ≢ s) → Stays s → MadeWithin s)
     → AreDoneAt net knots flags (n + 1) Did MadeWithin
 done_more net knots are flags n lt clear sides is Done Stays Did MadeWithin at did stay other = record {
-  here = λ s s_in below not. elim (eq_cases (part_of knots s) n) [
+  here = λ s s_in below not. elim (cases_eq (part_of knots s) n) [
     | inl e ↦
         let there = side_listed net knots are n lt sides is s s_in (in_own net knots are s n s_in e) in
         subst Did (get_or_default sides there.0 0 s there.1 ∙ there.2) (did there.0 there.1)
@@ -49,5 +47,5 @@ done_more net knots are flags n lt clear sides is Done Stays Did MadeWithin at d
   ];
   others = λ s s_in flag. other s (λ m m_in e.
       let here : part_of knots (get_or sides m 0) ≡ n = number_is knots.numbers n (get_or sides m 0) (side_here net knots are n lt sides is m m_in) in
-      not_both (get_or flags (part_of knots s) false) (ap (λ (k : ℕ). get_or flags k false) (ap (part_of knots) (sym e) ∙ here) ∙ clear) flag) (at.others s s_in flag);
+      both_ways (get_or flags (part_of knots s) false) (ap (λ (k : ℕ). get_or flags k false) (ap (part_of knots) (sym e) ∙ here) ∙ clear) flag) (at.others s s_in flag);
 }

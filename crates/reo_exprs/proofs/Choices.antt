@@ -1,5 +1,6 @@
 -- The types of pairs, of numbers and of a choice.
 use Rattle.std.proofs.Common.{Bool, true, false, ◌&&◌, ◌≡◌, ◌∙◌, ℤ, Some, None, ap, sym, refl, arith}
+use Rattle.std.proofs.lemmas.Bool.{and_parts}
 use Rattle.std.specs.Prelude.{IsTrue, option_and_then, option_map, if◌then◌else◌}
 use Rattle.std.specs.Int.{int_min, int_max}
 use Rattle.std.proofs.lemmas.Int.{ints, clamps}
@@ -10,7 +11,6 @@ use Rattle.reo_values.specs.declared.kindred.Kindred.TheBlock.{hidden-the_row-Tw
 use Rattle.reo_values.specs.declared.kindred.Twins.{Twins}
 use Rattle.reo_values.specs.declared.operator.Binary.TheVariants as binary
 use Rattle.reo_values.specs.declared.operator.Binary.{Binary}
-use Rattle.reo_values.proofs.Truths.{and_both}
 use Rattle.reo_exprs.specs.declared.interval.Interval.{Interval}
 use Rattle.reo_exprs.specs.Interval.{is_near, is_near_interval, near, arithmetic}
 use Rattle.reo_exprs.specs.Kinds.{kind_of, joins, join_of, is_within, is_bool, interval_of}
@@ -83,10 +83,10 @@ join_near s t e =
     where_joined (λ a b. is_within a ≡ true → is_within b ≡ true → is_within (join_of a b) ≡ true) (record {
       units = λ f g. refl;
       truths = λ f g. refl;
-      numbers = λ a b c d f g. let h = and_both (is_near a) (is_near b) f in let k = and_both (is_near c) (is_near d) g in λ i. near_least a c h.0 k.0 i && near_greatest b d h.1 k.1 i;
+      numbers = λ a b c d f g. let h = and_parts (is_near a) (is_near b) f in let k = and_parts (is_near c) (is_near d) g in λ i. near_least a c h.0 k.0 i && near_greatest b d h.1 k.1 i;
       names = λ xs ys p f g. refl;
       texts = λ m n f g. refl;
-      pairs = λ x y l r f g. let h = and_both (is_within x.left) (is_within x.right) f in let k = and_both (is_within y.left) (is_within y.right) g in λ i. l h.0 k.0 i && r h.1 k.1 i;
+      pairs = λ x y l r f g. let h = and_parts (is_within x.left) (is_within x.right) f in let k = and_parts (is_within y.left) (is_within y.right) g in λ i. l h.0 k.0 i && r h.1 k.1 i;
     }) s t e
 
 -- the kind of a type that a test lets through
@@ -96,12 +96,12 @@ kind_if false x y h = refl
 
 -- the kind of a choice is that of its first type, where the types join
 pub choice_kinded : (c x y : Kindred) → kind_of x ≡ x → provided (is_bool c && joins x y) x ≡ if_kind c x y
-choice_kinded c x y f = kind_if (is_bool c && joins x y) (join_of x y) x (λ h. join_kind x y (and_both (is_bool c) (joins x y) h).1 ∙ f)
+choice_kinded c x y f = kind_if (is_bool c && joins x y) (join_of x y) x (λ h. join_kind x y (and_parts (is_bool c) (joins x y) h).1 ∙ f)
 
 -- the type of a choice is the join, which is near
 pub choice_typed : (c x y made : Kindred) → true ≡ (is_bool c && joins x y) → IsTrue (is_within x) → IsTrue (is_within y) → made ≡ join_of x y → Some made ≡ if_within c x y
 choice_typed c x y made p f g e =
     let both : (is_bool c && joins x y) ≡ true = sym p in
-    let q = (and_both (is_bool c) (joins x y) both).1 in
+    let q = (and_parts (is_bool c) (joins x y) both).1 in
     ap Some e ∙ sym (chosen_by (is_within (join_of x y)) (Some (join_of x y)) None (sym (join_near x y q f g)))
     ∙ sym (ap (λ b. option_and_then within (provided b (join_of x y))) both)

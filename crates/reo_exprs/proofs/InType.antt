@@ -1,5 +1,6 @@
 -- The value of an expression is of its type, and its number is near.
 use Rattle.std.proofs.Common.{ℕ, ℤ, pos, neg_ℤ, ◌+ℤ◌, ◌-ℤ◌, ◌*ℤ◌, Bool, true, false, not, ◌&&◌, ◌||◌, ◌≡◌, ◌≤◌, ◌∙◌, length, Some, ap, sym, subst, arith}
+use Rattle.std.proofs.lemmas.Bool.{and_parts}
 use Rattle.std.specs.Prelude.{◌≤ℤ◌, option_and_then, if◌then◌else◌, int_lt, int_le, int_div, int_rem}
 use Rattle.std.proofs.lemmas.Int.{ints}
 use denote.Hole.Carrier.{hidden}
@@ -16,8 +17,7 @@ use Rattle.reo_values.specs.declared.operator.Binary.TheVariants as binary
 use Rattle.reo_values.specs.declared.operator.Binary.{Binary}
 use Rattle.reo_values.specs.Kind.{IsIn}
 use Rattle.reo_values.specs.Pair.{left_of, right_of}
-use Rattle.reo_values.proofs.Pairs.{left_of-Pair, right_of-Pair}
-use Rattle.reo_values.proofs.Truths.{and_both}
+use Rattle.reo_exprs.proofs.Pairs.{left_of-Pair, right_of-Pair}
 use Rattle.reo_exprs.specs.declared.expr.Expr as expr
 use Rattle.reo_exprs.specs.declared.expr.Expr.{Expr}
 use Rattle.reo_exprs.specs.declared.expr.Expr.TheBlock.{hidden-the_row-Expr-0, hidden-the_row-ExprPair-1, hidden-the_row-ExprTriple-2}
@@ -74,7 +74,7 @@ module _ (S : Type 0) where
 
     -- a type of divisors has none below 1
     positive : (y : Interval) → b ≡ int_type y → is_positive b ≡ true → pos 1 ≤ℤ y.low
-    positive y e h = let g = and_both (int_le (pos 1) y.low) (int_le (pos 1) y.high) (sym (ap is_positive e) ∙ h) in grind (arith, ints)
+    positive y e h = let g = and_parts (int_le (pos 1) y.low) (int_le (pos 1) y.high) (sym (ap is_positive e) ∙ h) in grind (arith, ints)
 
     -- the value of an operator with two operands is of its type
     binary_in : (op : Binary) (t : Kindred) → may_stand_right op b ≡ true → binary_type op a b ≡ Some t → Lies S (binary_value op v w) t
@@ -125,7 +125,7 @@ module _ (S : Type 0) where
   if_in : (c : Bool) (v w : Value) (k a b t : Kindred) → Lies S v a → Lies S w b → if_type k a b ≡ Some t → Lies S (if c then v else w) t
   if_in c v w k a b t p q e =
       let h = from_provided (is_bool k && joins a b) (join_of a b) t e in
-      let j = (and_both (is_bool k) (joins a b) h.0).1 in
+      let j = (and_parts (is_bool k) (joins a b) h.0).1 in
       subst (λ u. Lies S (if c then v else w) u) h.1 (chosen c v w (join_of a b) (lies_inside S a (join_of a b) v (left_inside a b j) p) (lies_inside S b (join_of a b) w (right_inside a b j) q))
 
   -- a number is of the type of itself alone

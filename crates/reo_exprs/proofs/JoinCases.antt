@@ -1,23 +1,21 @@
 -- What holds of any two types that join, by the six cases in which types join.
-use Rattle.std.proofs.Common.{ℕ, ℤ, true, ◌≡◌, List, [], ◌∷◌, refl, arith}
+use Rattle.std.proofs.Common.{ℕ, ℤ, true, ◌≡◌, List, refl, arith}
+use Rattle.std.proofs.lemmas.Bool.{and_parts}
+use Rattle.std.specs.Bool.{Decides}
 use Rattle.std.specs.Prelude.{bytes_eq}
 use Rattle.std.specs.Cmp.Lexicographic.{pointwise}
-use Rattle.std.proofs.lemmas.Slice.Eq.{bytes_eq-Decides}
+use Rattle.std.proofs.lemmas.Slice.Eq.{bytes_eq-Decides, slice_eq-Decides}
 use denote.Hole.Carrier.{hidden}
 use Rattle.reo_values.specs.declared.kindred.Kindred as kindred
 use Rattle.reo_values.specs.declared.kindred.Kindred.{Kindred}
 use Rattle.reo_values.specs.declared.kindred.Kindred.TheVariants as kinds
 use Rattle.reo_values.specs.declared.kindred.Kindred.TheBlock.{hidden-the_row-Twins-0}
 use Rattle.reo_values.specs.declared.kindred.Twins.{Twins}
-use Rattle.reo_values.proofs.Truths.{and_both}
 use Rattle.reo_exprs.specs.Kinds.{joins}
 
--- lists of names that the test finds equal are the same
-pub names_same : (xs ys : List (List ℕ)) → pointwise bytes_eq xs ys ≡ true → xs ≡ ys
-names_same [] [] e = refl
-names_same [] (y ∷ ys) e = absurd (cc)
-names_same (x ∷ xs) [] e = absurd (cc)
-names_same (x ∷ xs) (y ∷ ys) e = let h = and_both (bytes_eq x y) (pointwise bytes_eq xs ys) e in let f = names_same xs ys h.1 in let d = bytes_eq-Decides x y in grind arith
+-- the test of two lists of names decides whether they are the same
+pub names_decide : (xs ys : List (List ℕ)) → Decides (pointwise bytes_eq xs ys) (xs ≡ ys)
+names_decide xs ys = slice_eq-Decides bytes_eq-Decides xs ys (pointwise bytes_eq xs ys) refl
 
 -- P holds of two types in each case in which they join; of pairs, where it holds of their parts
 pub record HoldsWhereJoined (P : Kindred → Kindred → Type 0) : Type 0 where
@@ -52,7 +50,7 @@ where_joined P h (kindred.Int a b) (kindred.Pair' j (kindred.more_of-Twins c d k
 where_joined P h (kindred.Sym xs) kindred.Unit e = absurd (cc)
 where_joined P h (kindred.Sym xs) kindred.Bool e = absurd (cc)
 where_joined P h (kindred.Sym xs) (kindred.Int c d) e = absurd (cc)
-where_joined P h (kindred.Sym xs) (kindred.Sym ys) e = h.names xs ys (names_same xs ys e)
+where_joined P h (kindred.Sym xs) (kindred.Sym ys) e = h.names xs ys ((names_decide xs ys).0 e)
 where_joined P h (kindred.Sym xs) (kindred.Text n) e = absurd (cc)
 where_joined P h (kindred.Sym xs) (kindred.Pair' j (kindred.more_of-Twins c d kindred.end_of-Twins)) e = absurd (cc)
 where_joined P h (kindred.Text m) kindred.Unit e = absurd (cc)
@@ -67,5 +65,5 @@ where_joined P h (kindred.Pair' i (kindred.more_of-Twins a b kindred.end_of-Twin
 where_joined P h (kindred.Pair' i (kindred.more_of-Twins a b kindred.end_of-Twins)) (kindred.Sym ys) e = absurd (cc)
 where_joined P h (kindred.Pair' i (kindred.more_of-Twins a b kindred.end_of-Twins)) (kindred.Text n) e = absurd (cc)
 where_joined P h (kindred.Pair' i (kindred.more_of-Twins a b kindred.end_of-Twins)) (kindred.Pair' j (kindred.more_of-Twins c d kindred.end_of-Twins)) e =
-    let g = and_both (joins a c) (joins b d) e in
+    let g = and_parts (joins a c) (joins b d) e in
     h.pairs (record { left = a; right = b }) (record { left = c; right = d }) (where_joined P h a c g.0) (where_joined P h b d g.1)

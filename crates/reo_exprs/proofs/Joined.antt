@@ -1,15 +1,14 @@
 -- Types that lie inside others, and what a join contains.
-use Rattle.std.proofs.Common.{ℕ, Bool, true, ◌≡◌, ◌∙◌, List, [], ◌∷◌, ap, sym, subst, refl, arith}
+use Rattle.std.proofs.Common.{ℕ, Bool, true, ◌≡◌, ◌∙◌, List, ap, sym, subst, refl, arith}
 use Rattle.std.specs.Prelude.{◌↔◌, IsTrue, bytes_eq}
 use Rattle.std.specs.Cmp.Lexicographic.{pointwise}
 use Rattle.std.proofs.lemmas.Int.{ints, clamps}
-use Rattle.std.proofs.lemmas.Slice.Eq.{bytes_eq-Decides}
 use denote.Hole.Carrier.{hidden}
 use Rattle.reo_values.specs.declared.kindred.Kindred.{Kindred}
 use Rattle.reo_values.specs.declared.kindred.Kindred.TheVariants as kinds
 use Rattle.reo_values.specs.declared.kindred.Kindred.TheBlock.{hidden-the_row-Twins-0}
 use Rattle.reo_exprs.specs.Kinds.{joins, join_of, LiesInside}
-use Rattle.reo_exprs.proofs.JoinCases.{names_same, where_joined}
+use Rattle.reo_exprs.proofs.JoinCases.{names_decide, where_joined}
 
 -- a join contains its left type
 pub left_inside : (s t : Kindred) → joins s t ≡ true → LiesInside s (join_of s t)
@@ -37,14 +36,9 @@ right_inside s t e =
       pairs = λ x y l r. (l, r);
     }) s t e
 
--- the test finds a list of names equal to itself
-pub names_match : (xs : List (List ℕ)) → pointwise bytes_eq xs xs ≡ true
-names_match [] = refl
-names_match (x ∷ xs) = let d = bytes_eq-Decides x x in let h = names_match xs in grind arith
-
 -- types of names lie inside each other exactly where the names are the same
 pub sym_inside : (a b : Kindred) (xs ys : List (List ℕ)) (r : Bool) → a ≡ kinds.Sym xs → b ≡ kinds.Sym ys → r ≡ pointwise bytes_eq xs ys → IsTrue r ↔ LiesInside a b
 sym_inside a b xs ys r p q e = (
-  λ h. subst (λ k. LiesInside k b) (sym p) (subst (λ k. LiesInside (kinds.Sym xs) k) (sym q) (names_same xs ys (sym e ∙ h))),
-  λ h. e ∙ ap (λ n. pointwise bytes_eq n ys) (subst (λ k. LiesInside (kinds.Sym xs) k) q (subst (λ k. LiesInside k b) p h)) ∙ names_match ys,
+  λ h. subst (λ k. LiesInside k b) (sym p) (subst (λ k. LiesInside (kinds.Sym xs) k) (sym q) ((names_decide xs ys).0 (sym e ∙ h))),
+  λ h. e ∙ ap (λ n. pointwise bytes_eq n ys) (subst (λ k. LiesInside (kinds.Sym xs) k) q (subst (λ k. LiesInside k b) p h)) ∙ (names_decide ys ys).1 refl,
 )

@@ -1,5 +1,7 @@
 -- The kind of an expression is the kind of its type, where it has one.
 use Rattle.std.proofs.Common.{Bool, true, false, ◌&&◌, ◌≡◌, ◌∙◌, length, Option, None, Some, ap, sym, refl}
+use Rattle.std.specs.Cmp.{both_ways}
+use Rattle.std.proofs.lemmas.Bool.{and_parts}
 use Rattle.std.specs.Prelude.{option_and_then, option_map}
 use denote.Hole.Carrier.{hidden}
 use Rattle.reo_values.specs.declared.kindred.Kindred as kindred
@@ -10,7 +12,6 @@ use Rattle.reo_values.specs.declared.operator.Unary.TheVariants as unary
 use Rattle.reo_values.specs.declared.operator.Unary.{Unary}
 use Rattle.reo_values.specs.declared.operator.Binary.TheVariants as binary
 use Rattle.reo_values.specs.declared.operator.Binary.{Binary}
-use Rattle.reo_values.proofs.Truths.{and_both, one_truth}
 use Rattle.reo_exprs.specs.declared.expr.Expr as expr
 use Rattle.reo_exprs.specs.declared.expr.Expr.{Expr}
 use Rattle.reo_exprs.specs.declared.expr.Expr.TheBlock.{hidden-the_row-Expr-0, hidden-the_row-ExprPair-1, hidden-the_row-ExprTriple-2}
@@ -29,7 +30,7 @@ joins_kinds : (s t : Kindred) → joins (kind_of s) (kind_of t) ≡ joins s t
 joins_kinds s t =
     let kinds = join_by_kind (kind_of s) (kind_of t) in
     let types = join_by_kind s t in
-    one_truth (joins (kind_of s) (kind_of t)) (joins s t)
+    both_ways (joins (kind_of s) (kind_of t)) (joins s t)
     (λ e. types.1 (sym (kind_twice s) ∙ kinds.0 e ∙ kind_twice t))
     (λ e. kinds.1 (kind_twice s ∙ types.0 e ∙ sym (kind_twice t)))
 
@@ -116,7 +117,7 @@ if_kinds : (c k l : Kindred) → option_map kind_of (if_type (kind_of c) (kind_o
 if_kinds c k l =
     (λ i. option_map kind_of (provided (bool_kind c i && joins_kinds k l i) (join_of (kind_of k) (kind_of l))))
     ∙ chosen_kinds (is_bool c && joins k l) (join_of (kind_of k) (kind_of l)) (join_of k l)
-    (λ h. let j = (and_both (is_bool c) (joins k l) h).1 in join_kind (kind_of k) (kind_of l) (joins_kinds k l ∙ j) ∙ kind_twice k ∙ sym (join_kind k l j))
+    (λ h. let j = (and_parts (is_bool c) (joins k l) h).1 in join_kind (kind_of k) (kind_of l) (joins_kinds k l ∙ j) ∙ kind_twice k ∙ sym (join_kind k l j))
 
 -- the kind of what a test of bounds let through
 kind_told : (o : Option Kindred) (k t : Kindred) → o ≡ Some k → within k ≡ Some t → option_map kind_of o ≡ Some (kind_of t)

@@ -8,8 +8,7 @@ use Rattle.reo_values.specs.declared.kindred.Kindred.{Kindred}
 use Rattle.reo_values.specs.declared.kindred.Kindred.TheVariants as kinds
 use Rattle.reo_values.specs.declared.kindred.Kindred.TheBlock.{hidden-the_row-Twins-0}
 use Rattle.reo_exprs.specs.Kinds.{kind_of, joins}
-use Rattle.reo_exprs.proofs.JoinCases.{where_joined}
-use Rattle.reo_exprs.proofs.Joined.{names_match}
+use Rattle.reo_exprs.proofs.JoinCases.{names_decide, where_joined}
 use Rattle.reo_exprs.proofs.Options.{to_both}
 use Rattle.reo_exprs.proofs.Steps.{kind_parts}
 use Rattle.reo_exprs.proofs.Twinned.{Twins_of-equal}
@@ -56,7 +55,7 @@ same_kinds (kindred.Int a b) (kindred.Pair' j (kindred.more_of-Twins c d kindred
 same_kinds (kindred.Sym names) kindred.Unit e = absurd (cc)
 same_kinds (kindred.Sym names) kindred.Bool e = absurd (cc)
 same_kinds (kindred.Sym names) (kindred.Int c d) e = absurd (cc)
-same_kinds (kindred.Sym names) (kindred.Sym names2) e = ap (λ o. pointwise bytes_eq names o) (sym (ap names_of e)) ∙ names_match names
+same_kinds (kindred.Sym names) (kindred.Sym names2) e = ap (λ o. pointwise bytes_eq names o) (sym (ap names_of e)) ∙ (names_decide names names).1 refl
 same_kinds (kindred.Sym names) (kindred.Text most2) e = absurd (cc)
 same_kinds (kindred.Sym names) (kindred.Pair' j (kindred.more_of-Twins c d kindred.end_of-Twins)) e = absurd (cc)
 same_kinds (kindred.Text most) kindred.Unit e = absurd (cc)

@@ -18,3 +18,4 @@ pub mod Steps
 pub mod Trees
 pub mod Twinned
 pub mod ValidType
+pub mod Pairs

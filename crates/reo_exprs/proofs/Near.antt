@@ -1,23 +1,23 @@
 -- Numbers from -10^18 to 10^18.
 use Rattle.std.proofs.Common.{Bool, true, false, ◌&&◌, ◌≡◌, ◌∙◌, ◌^◌, ◌*◌, ℤ, pos, neg_ℤ, ◌-ℤ◌, to_z, of_z, Some, None, ap, sym, refl, arith}
+use Rattle.std.proofs.lemmas.Bool.{and_parts}
 use Rattle.std.specs.Prelude.{◌≤ℤ◌, IsTrue, int_le, if◌then◌else◌, FitsSigned}
 use Rattle.std.specs.Int.{int_min, int_max, w64}
 use Rattle.std.proofs.lemmas.Int.{ints, clamps}
 pub use Rattle.std.proofs.lemmas.Int.{to_z-of_z}
-use Rattle.reo_values.proofs.Truths.{and_both}
 use Rattle.reo_exprs.specs.declared.interval.Interval.{Interval}
 use Rattle.reo_exprs.specs.Interval.{is_near, near_number, is_near_interval, near, least, greatest}
 use Rattle.reo_exprs.proofs.Options.{some_same}
 
 -- a near number lies from -10^18 to 10^18
 pub near_bounds : (z : ℤ) → is_near z ≡ true → (neg_ℤ (pos (10 ^ 18)) ≤ℤ z) × (z ≤ℤ pos (10 ^ 18))
-near_bounds z h = let x = and_both (int_le (neg_ℤ (pos (10 ^ 18))) z) (int_le z (pos (10 ^ 18))) h in (grind (arith, ints), grind (arith, ints))
+near_bounds z h = let x = and_parts (int_le (neg_ℤ (pos (10 ^ 18))) z) (int_le z (pos (10 ^ 18))) h in (grind (arith, ints), grind (arith, ints))
 
 -- and so do both bounds of a near interval
 pub interval_bounds : (x : Interval) → IsTrue (is_near_interval x)
     → (neg_ℤ (pos (10 ^ 18)) ≤ℤ x.low) × (x.low ≤ℤ pos (10 ^ 18)) × (neg_ℤ (pos (10 ^ 18)) ≤ℤ x.high) × (x.high ≤ℤ pos (10 ^ 18))
 interval_bounds x h =
-    let y = and_both (is_near x.low) (is_near x.high) h in
+    let y = and_parts (is_near x.low) (is_near x.high) h in
     let a = near_bounds x.low y.0 in
     let b = near_bounds x.high y.1 in
     (a.0, a.1, b.0, b.1)

@@ -1,5 +1,6 @@
 -- The numbers of the type of an expression are near.
 use Rattle.std.proofs.Common.{ℤ, true, ◌≡◌, length, Some, ap, sym, refl, arith}
+use Rattle.std.proofs.lemmas.Bool.{and_parts}
 use Rattle.std.specs.Prelude.{◌≤ℤ◌, option_and_then}
 use Rattle.std.proofs.lemmas.Int.{ints}
 use denote.Hole.Carrier.{hidden}
@@ -9,7 +10,6 @@ use Rattle.reo_values.specs.declared.value.Value.TheVariants as values
 use Rattle.reo_values.specs.declared.kindred.Kindred as kindred
 use Rattle.reo_values.specs.declared.kindred.Kindred.{Kindred}
 use Rattle.reo_values.specs.declared.kindred.Kindred.TheVariants as kinds
-use Rattle.reo_values.proofs.Truths.{and_both}
 use Rattle.reo_exprs.specs.declared.expr.Expr as expr
 use Rattle.reo_exprs.specs.declared.expr.Expr.{Expr}
 use Rattle.reo_exprs.specs.declared.expr.Expr.TheBlock.{hidden-the_row-Expr-0, hidden-the_row-ExprPair-1, hidden-the_row-ExprTriple-2}
@@ -55,7 +55,7 @@ module _ (S : Type 0) where
   near_in : (z : ℤ) (k : Kindred) → Lies S (values.Int z) k → is_within k ≡ true → is_near z ≡ true
   near_in z kindred.Unit h e = absurd h
   near_in z kindred.Bool h e = absurd h
-  near_in z (kindred.Int a b) h e = let x = and_both (is_near a) (is_near b) e in near_between a z b h.0 h.1 x.0 x.1
+  near_in z (kindred.Int a b) h e = let x = and_parts (is_near a) (is_near b) e in near_between a z b h.0 h.1 x.0 x.1
   near_in z (kindred.Sym names) h e = absurd h
   near_in z (kindred.Text most) h e = absurd h
   near_in z (kindred.Pair' n (kindred.more_of-Twins a b kindred.end_of-Twins)) h e = absurd h

@@ -1,5 +1,6 @@
 -- When the test of two items says that they are equal.
 use Rattle.std.proofs.Common.{ℤ, Bool, true, false, ◌&&◌, ◌≡◌, ◌∙◌, ap, sym, refl, arith}
+use Rattle.std.proofs.lemmas.Bool.{and_parts, eqb-true, eq-eqb}
 use Rattle.std.specs.Prelude.{IsTrue, ◌↔◌}
 use Rattle.std.specs.Ordering.{int_eq}
 use Rattle.std.proofs.lemmas.Bool.Decides.{Decides-int_eq}
@@ -8,10 +9,8 @@ use Rattle.reo_values.specs.declared.value.Value as value
 use Rattle.reo_values.specs.declared.value.Value.{Value}
 use Rattle.reo_values.specs.declared.value.Value.TheVariants as values
 use Rattle.reo_values.specs.declared.value.Value.TheBlock.{hidden-the_row-Couple-0}
-use Rattle.reo_values.proofs.Pairs.{Pair_of-equal}
+use Rattle.reo_exprs.proofs.Pairs.{Pair_of-equal}
 use Rattle.reo_values.proofs.Sequences.{same_bytes, bytes_same}
-use Rattle.reo_values.proofs.Truths.{and_both}
-use Rattle.reo_values.proofs.Naturals.{eq_same, same_eq}
 use Rattle.reo_exprs.specs.Valued.{same_value}
 
 -- integers that the test finds equal are the same
@@ -57,7 +56,7 @@ same_true (value.Sym a) value.Unit e = absurd (cc)
 same_true (value.Sym a) (value.Bool true) e = absurd (cc)
 same_true (value.Sym a) (value.Bool false) e = absurd (cc)
 same_true (value.Sym a) (value.Int c) e = absurd (cc)
-same_true (value.Sym a) (value.Sym c) e = ap values.Sym (eq_same a c e)
+same_true (value.Sym a) (value.Sym c) e = ap values.Sym (eqb-true a c e)
 same_true (value.Sym a) (value.Text c) e = absurd (cc)
 same_true (value.Sym a) (value.Pair' n (value.more_of-Couple c d value.end_of-Couple)) e = absurd (cc)
 same_true (value.Text a) value.Unit e = absurd (cc)
@@ -73,7 +72,7 @@ same_true (value.Pair' m (value.more_of-Couple a b value.end_of-Couple)) (value.
 same_true (value.Pair' m (value.more_of-Couple a b value.end_of-Couple)) (value.Int c) e = absurd (cc)
 same_true (value.Pair' m (value.more_of-Couple a b value.end_of-Couple)) (value.Sym c) e = absurd (cc)
 same_true (value.Pair' m (value.more_of-Couple a b value.end_of-Couple)) (value.Text c) e = absurd (cc)
-same_true (value.Pair' m (value.more_of-Couple a b value.end_of-Couple)) (value.Pair' n (value.more_of-Couple c d value.end_of-Couple)) e = let h = and_both (same_value a c) (same_value b d) e in Pair_of-equal (record { left = a; right = b }) (record { left = c; right = d }) (same_true a c h.0) (same_true b d h.1)
+same_true (value.Pair' m (value.more_of-Couple a b value.end_of-Couple)) (value.Pair' n (value.more_of-Couple c d value.end_of-Couple)) e = let h = and_parts (same_value a c) (same_value b d) e in Pair_of-equal (record { left = a; right = b }) (record { left = c; right = d }) (same_true a c h.0) (same_true b d h.1)
 
 -- and it finds an item equal to itself
 pub same_self : (v : Value) → same_value v v ≡ true
@@ -82,7 +81,7 @@ same_self value.Unit = refl
 same_self (value.Bool true) = refl
 same_self (value.Bool false) = refl
 same_self (value.Int a) = int_same a
-same_self (value.Sym a) = same_eq a a refl
+same_self (value.Sym a) = eq-eqb a a refl
 same_self (value.Text a) = bytes_same a
 same_self (value.Pair' m (value.more_of-Couple a b value.end_of-Couple)) = (λ i. same_self a i && same_self b i)
 

@@ -1,5 +1,6 @@
 -- What is seen of the value of an expression.
 use Rattle.std.proofs.Common.{Bor, ◌+◌, true, false, ◌&&◌, ◌≡◌, ◌≢◌, ◌∙◌, ℤ, pos, Some, ap, sym, subst, refl, arith}
+use Rattle.std.proofs.lemmas.Bool.{and_parts}
 use Rattle.std.specs.Prelude.{◌≤ℤ◌, int_le, option_and_then}
 use Rattle.std.proofs.lemmas.Int.{ints}
 use denote.Hole.Carrier.{hidden}
@@ -15,8 +16,7 @@ use Rattle.reo_values.specs.declared.operator.Binary.TheVariants as binary
 use Rattle.reo_values.specs.declared.operator.Binary.{Binary}
 use Rattle.reo_values.specs.Kind.{IsIn}
 use Rattle.reo_values.specs.Pair.{left_of, right_of}
-use Rattle.reo_values.proofs.Pairs.{left_of-Pair, right_of-Pair}
-use Rattle.reo_values.proofs.Truths.{and_both}
+use Rattle.reo_exprs.proofs.Pairs.{left_of-Pair, right_of-Pair}
 use Rattle.reo_exprs.specs.declared.expr.Expr.{Expr}
 use Rattle.reo_exprs.specs.declared.expr.Expr.TheVariants as exprs
 use Rattle.reo_exprs.specs.declared.expr.ExprPair.{ExprPair}
@@ -69,7 +69,7 @@ by_numbers binary.Pair x y a b c d e = absurd (e refl)
 -- a number of an interval of divisors may be a divisor
 positive_number : (low high n : ℤ) → is_positive (kinds.Int low high) ≡ true → low ≤ℤ n → is_positive (kinds.Int n n) ≡ true
 positive_number low high n h g =
-    let b = and_both (int_le (pos 1) low) (int_le (pos 1) high) h in
+    let b = and_parts (int_le (pos 1) low) (int_le (pos 1) high) h in
     let c : int_le (pos 1) n ≡ true = grind (arith, ints) in
     (λ i. c i && c i)
 

@@ -1,5 +1,6 @@
 -- The kind and the type of an expression, from those of its parts.
 use Rattle.std.proofs.Common.{true, ◌≡◌, ◌∙◌, pos, Option, Some, None, ap, sym, refl}
+use Rattle.std.proofs.lemmas.Bool.{and_parts}
 use Rattle.std.specs.Prelude.{option_and_then, option_map, IsTrue, if◌then◌else◌}
 use denote.Hole.Carrier.{hidden}
 use Rattle.reo_values.specs.declared.kindred.Kindred as kindred
@@ -9,7 +10,6 @@ use Rattle.reo_values.specs.declared.kindred.Kindred.TheBlock.{hidden-the_row-Tw
 use Rattle.reo_values.specs.declared.kindred.Twins.{Twins}
 use Rattle.reo_values.specs.declared.operator.Unary.{Unary}
 use Rattle.reo_values.specs.declared.operator.Binary.{Binary}
-use Rattle.reo_values.proofs.Truths.{and_both}
 use Rattle.reo_exprs.specs.declared.expr.Expr as expr
 use Rattle.reo_exprs.specs.declared.expr.Expr.{Expr}
 use Rattle.reo_exprs.specs.declared.expr.Expr.TheVariants as exprs
@@ -98,7 +98,7 @@ left_part kindred.Bool h = refl
 left_part (kindred.Int a b) h = refl
 left_part (kindred.Sym a) h = refl
 left_part (kindred.Text a) h = refl
-left_part (kindred.Pair' m (kindred.more_of-Twins a b kindred.end_of-Twins)) h = ap (λ c. if c then Some a else None) (and_both (is_within a) (is_within b) h).0
+left_part (kindred.Pair' m (kindred.more_of-Twins a b kindred.end_of-Twins)) h = ap (λ c. if c then Some a else None) (and_parts (is_within a) (is_within b) h).0
 
 -- and so is the right one
 right_part : (k : Kindred) → is_within k ≡ true → option_and_then within (option_map (λ t. t.right) (twins_of k)) ≡ option_map (λ t. t.right) (twins_of k)
@@ -108,7 +108,7 @@ right_part kindred.Bool h = refl
 right_part (kindred.Int a b) h = refl
 right_part (kindred.Sym a) h = refl
 right_part (kindred.Text a) h = refl
-right_part (kindred.Pair' m (kindred.more_of-Twins a b kindred.end_of-Twins)) h = ap (λ c. if c then Some b else None) (and_both (is_within a) (is_within b) h).1
+right_part (kindred.Pair' m (kindred.more_of-Twins a b kindred.end_of-Twins)) h = ap (λ c. if c then Some b else None) (and_parts (is_within a) (is_within b) h).1
 
 -- the same of a type that was found near
 pub left_within : (k : Kindred) → IsTrue (is_within k) → option_and_then within (option_map (λ t. t.left) (twins_of k)) ≡ option_map (λ t. t.left) (twins_of k)

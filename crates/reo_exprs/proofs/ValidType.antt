@@ -1,5 +1,6 @@
 -- The type of a sound expression is valid, where the item's is.
 use Rattle.std.proofs.Common.{ℤ, pos, ◌-ℤ◌, ◌*ℤ◌, Bool, true, ◌&&◌, ◌≡◌, ◌∙◌, length, Some, ap, sym, subst, arith}
+use Rattle.std.proofs.lemmas.Bool.{and_parts}
 use Rattle.std.specs.Prelude.{◌≤ℤ◌, option_and_then, if◌then◌else◌, int_le, int_div}
 use Rattle.std.specs.Int.{int_min, int_max}
 use Rattle.std.proofs.lemmas.Int.{ints, clamps}
@@ -13,7 +14,7 @@ use Rattle.reo_values.specs.declared.operator.Unary.{Unary}
 use Rattle.reo_values.specs.declared.operator.Binary.TheVariants as binary
 use Rattle.reo_values.specs.declared.operator.Binary.{Binary}
 use Rattle.reo_values.specs.Valid.{IsValid}
-use Rattle.reo_values.proofs.Pairs.{IsValid-Pair}
+use Rattle.reo_exprs.proofs.Pairs.{IsValid-Pair}
 use Rattle.reo_exprs.specs.declared.expr.Expr as expr
 use Rattle.reo_exprs.specs.declared.expr.Expr.{Expr}
 use Rattle.reo_exprs.specs.declared.expr.Expr.TheBlock.{hidden-the_row-Expr-0, hidden-the_row-ExprPair-1, hidden-the_row-ExprTriple-2}
@@ -27,12 +28,11 @@ use Rattle.reo_exprs.proofs.Near.{near_bounds, near_fits}
 use Rattle.reo_exprs.proofs.Options.{some_same, from_and_then, from_map, from_provided, from_if, from_within}
 use Rattle.reo_exprs.proofs.Shapes.{is_number, is_pair, from_numbers}
 use Rattle.reo_values.proofs.Again.{pair_valid}
-use Rattle.reo_values.proofs.Truths.{and_both}
 
 -- the type of an interval in order whose bounds are near is valid
 near_valid : (x : Interval) → is_within (int_type x) ≡ true → x.low ≤ℤ x.high → IsValid (int_type x)
 near_valid x h g =
-    let b = and_both (is_near x.low) (is_near x.high) h in
+    let b = and_parts (is_near x.low) (is_near x.high) h in
     let p = near_bounds x.low b.0 in
     let q = near_bounds x.high b.1 in
     (near_fits x.low p.0 p.1, near_fits x.high q.0 q.1, g)
@@ -68,7 +68,7 @@ module _ (a b : Kindred) (v : IsValid a) (w : IsValid b) where
 
   -- a type of divisors has none below 1
   least_divisor : (y : Interval) → b ≡ int_type y → is_positive b ≡ true → pos 1 ≤ℤ y.low
-  least_divisor y e h = let g = and_both (int_le (pos 1) y.low) (int_le (pos 1) y.high) (sym (ap is_positive e) ∙ h) in grind (arith, ints)
+  least_divisor y e h = let g = and_parts (int_le (pos 1) y.low) (int_le (pos 1) y.high) (sym (ap is_positive e) ∙ h) in grind (arith, ints)
 
   -- the type of an operator with two operands is valid, where theirs are
   binary_valid : (op : Binary) (t : Kindred) → may_stand_right op b ≡ true → is_within t ≡ true → binary_type op a b ≡ Some t → IsValid t
@@ -123,7 +123,7 @@ join_valid s t e =
 if_valid : (k a b t : Kindred) → IsValid a → IsValid b → if_type k a b ≡ Some t → IsValid t
 if_valid k a b t v w e =
     let h = from_provided (is_bool k && joins a b) (join_of a b) t e in
-    subst (λ u. IsValid u) h.1 (join_valid a b (and_both (is_bool k) (joins a b) h.0).1 v w)
+    subst (λ u. IsValid u) h.1 (join_valid a b (and_parts (is_bool k) (joins a b) h.0).1 v w)
 
 -- what `within` lets through of a valid type is valid
 within_valid : (k t : Kindred) → within k ≡ Some t → IsValid k → IsValid t

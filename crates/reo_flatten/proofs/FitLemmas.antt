@@ -31,7 +31,7 @@ use Rattle.reo_unfold.specs.Fits.{IsFew, FormFits, AreFit}
 use Rattle.reo_unfold.proofs.ListLemmas.{each_none}
 use Rattle.reo_unfold.proofs.TypeLemmas.{few_pair}
 use Rattle.reo_values.specs.declared.kindred.Kindred.TheVariants as kinds
-use Rattle.reo_values.proofs.Sequences.{left_none}
+use Rattle.reo_flatten.proofs.Sequences.{left_none}
 use Rattle.reo_syntax_laws.proofs.trees_laws.Lists.{all-more as all_one}
 
 -- No break means that no written type in it has too many names.

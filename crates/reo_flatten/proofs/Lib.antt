@@ -7,3 +7,4 @@ pub mod NoCycles
 pub mod CountLemmas
 pub mod FitLemmas
 pub mod PartLemmas
+pub mod Sequences

@@ -18,7 +18,7 @@ use Rattle.reo_unfold.specs.declared.ground.Stand.{Stand}
 use Rattle.reo_unfold.specs.Ground.{IsStand, IsGround}
 use Rattle.reo_unfold.specs.declared.ground.Ground.{Ground}
 use Rattle.std.proofs.lemmas.List.{length-map}
-use Rattle.reo_values.proofs.Sequences.{cut_at}
+use Rattle.reo_flatten.proofs.Sequences.{cut_at}
 use Rattle.reo_unfold.proofs.ListLemmas.{slice_get-right}
 use Rattle.reo_unfold.proofs.Positions.{found_at, found_within, found_nowhere}
 use Rattle.reo_unfold.proofs.GroundLemmas.{names_of-meanings}

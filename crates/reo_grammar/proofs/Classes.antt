@@ -1,5 +1,6 @@
 -- Laws of the classes of tokens.
 use Rattle.std.proofs.Common.{◌≡◌, ℕ, Bool, true, false, ◌&&◌, ◌||◌, not, List, [], ◌∷◌, ◌++◌, refl, sym, ◌∙◌, ap, arith, nat_le}
+use Rattle.std.proofs.lemmas.Bool.{and_parts, not-true, both_ways, and_from}
 use Rattle.std.specs.Str.{bytes_eq}
 use Rattle.reo_grammar.specs.declared.kind.TokenKind.{TokenKind}
 use Rattle.reo_grammar.specs.declared.kind.TokenKind.TheVariants as kinds
@@ -9,9 +10,8 @@ use Rattle.reo_grammar.specs.Bytes.{one_of}
 use Rattle.reo_grammar.specs.Tokens.Class.{fixed, among, other, name, named, number, text}
 use Rattle.reo_grammar.specs.Grammar.{starts}
 use Rattle.reo_grammar.specs.Sight.{as_word, none_of, each_of, differ, apart, inside, apart_from, all_apart, all_inside}
-use Rattle.reo_grammar.proofs.Sound.{not-true, and-both}
+use Rattle.reo_grammar.proofs.Sound.{not-true}
 pub use Rattle.std.proofs.lemmas.Bool.{false_from_ne_true as false-not}
-use Rattle.reo_values.proofs.Truths.{and_left, and_right, not_true, no_both}
 use Rattle.reo_values.proofs.Sequences.{same_bytes}
 
 pub or-cases : {P : Type 0} (a b : Bool) → (a || b) ≡ true → (a ≡ true → P) → (b ≡ true → P) → P
@@ -40,19 +40,19 @@ same_word kinds.Text b l d h = absurd (cc)
 
 -- A class that a word or sign is of.
 of_word : (t : Lexeme) (b : List ℕ) (d : Class) → matches (fixed b) t ≡ true → matches d t ≡ matches d (as_word b)
-of_word t b d h = let e : t.bytes ≡ b = same_bytes t.bytes b (and_right _ _ h) in same_word t.kind t.bytes t.line d (and_left _ _ h) ∙ ap (λ x. matches d (as_word x)) e
+of_word t b d h = let e : t.bytes ≡ b = same_bytes t.bytes b ((and_parts _ _ h).1) in same_word t.kind t.bytes t.line d ((and_parts _ _ h).0) ∙ ap (λ x. matches d (as_word x)) e
 
 one_of-none : (t : Lexeme) (bs : List (List ℕ)) (d : Class) → is_fixed t.kind ≡ true → one_of t.bytes bs ≡ true → none_of d bs ≡ true → matches d t ≡ false
 one_of-none t [] d k h n = absurd (cc)
 one_of-none t (b ∷ bs) d k h n = or-cases (bytes_eq t.bytes b) (one_of t.bytes bs) h
-    (λ e. of_word t b d (and-both _ _ k e) ∙ not_true _ (and_left _ _ n))
-    (λ e. one_of-none t bs d k e (and_right _ _ n))
+    (λ e. of_word t b d (and_from _ _ k e) ∙ not-true _ ((and_parts _ _ n).0))
+    (λ e. one_of-none t bs d k e ((and_parts _ _ n).1))
 
 one_of-each : (t : Lexeme) (bs : List (List ℕ)) (d : Class) → is_fixed t.kind ≡ true → one_of t.bytes bs ≡ true → each_of d bs ≡ true → matches d t ≡ true
 one_of-each t [] d k h n = absurd (cc)
 one_of-each t (b ∷ bs) d k h n = or-cases (bytes_eq t.bytes b) (one_of t.bytes bs) h
-    (λ e. of_word t b d (and-both _ _ k e) ∙ and_left _ _ n)
-    (λ e. one_of-each t bs d k e (and_right _ _ n))
+    (λ e. of_word t b d (and_from _ _ k e) ∙ (and_parts _ _ n).0)
+    (λ e. one_of-each t bs d k e ((and_parts _ _ n).1))
 
 pub name-kind : (k : TokenKind) → is_name k ≡ true → k ≡ kinds.Name
 name-kind kinds.Name h = refl
@@ -80,10 +80,10 @@ of_name : (t : Lexeme) → matches name t ≡ true → t.kind ≡ kinds.Name
 of_name t h = name-kind t.kind h
 
 of_named : (t : Lexeme) (b : List ℕ) → matches (named b) t ≡ true → t.kind ≡ kinds.Name
-of_named t b h = name-kind t.kind (and_left _ _ h)
+of_named t b h = name-kind t.kind ((and_parts _ _ h).0)
 
 of_number : (t : Lexeme) (l m : ℕ) → matches (number l m) t ≡ true → t.kind ≡ kinds.Number
-of_number t l m h = number-kind t.kind (and_left _ _ h)
+of_number t l m h = number-kind t.kind ((and_parts _ _ h).0)
 
 of_text : (t : Lexeme) → matches text t ≡ true → t.kind ≡ kinds.Text
 of_text t h = text-kind t.kind h
@@ -92,8 +92,8 @@ differ-no : (c d : Class) (t : Lexeme) → differ c d ≡ true → matches c t �
 differ-no name (number l m) t h p q = let a = of_name t p in let b = of_number t l m q in cc
 differ-no name text t h p q = let a = of_name t p in let b = of_text t q in cc
 differ-no (named b) (named d) t h p q =
-    let e : t.bytes ≡ b = same_bytes t.bytes b (and_right _ _ p) in
-    not-true (bytes_eq b d) h (rw e at (and_right (is_name t.kind) (bytes_eq t.bytes d) q))
+    let e : t.bytes ≡ b = same_bytes t.bytes b ((and_parts _ _ p).1) in
+    not-true (bytes_eq b d) h (rw e at ((and_parts (is_name t.kind) (bytes_eq t.bytes d) q).1))
 differ-no (named b) (number l m) t h p q = let a = of_named t b p in let c = of_number t l m q in cc
 differ-no (named b) text t h p q = let a = of_named t b p in let c = of_text t q in cc
 differ-no (number l m) (named b) t h p q = let a = of_named t b q in let c = of_number t l m p in cc
@@ -108,7 +108,7 @@ word-apart : (b : List ℕ) (d : Class) (t : Lexeme) → not (matches d (as_word
 word-apart b d t h p q = not-true (matches d (as_word b)) h (sym (of_word t b d p) ∙ q)
 
 words-apart : (bs : List (List ℕ)) (d : Class) (t : Lexeme) → none_of d bs ≡ true → matches (among bs) t ≡ true → matches d t ≡ true → ⊥
-words-apart bs d t h p q = let e : matches d t ≡ false = one_of-none t bs d (and_left _ _ p) (and_right _ _ p) h in no_both (matches d t) q e
+words-apart bs d t h p q = let e : matches d t ≡ false = one_of-none t bs d ((and_parts _ _ p).0) ((and_parts _ _ p).1) h in both_ways (matches d t) e q
 
 pub apart-no : (c d : Class) (t : Lexeme) → apart c d ≡ true → matches c t ≡ true → matches d t ≡ true → ⊥
 apart-no (fixed b) d t h p q = word-apart b d t h p q
@@ -157,18 +157,18 @@ le_le : (a b c : ℕ) → nat_le a b ≡ true → nat_le b c ≡ true → nat_le
 le_le a b c h k = grind (arith, nat_tests)
 
 between : (a b c d x : ℕ) → (nat_le c a && nat_le b d) ≡ true → (nat_le a x && nat_le x b) ≡ true → (nat_le c x && nat_le x d) ≡ true
-between a b c d x h k = and-both _ _ (le_le c a x (and_left _ _ h) (and_left _ _ k)) (le_le x b d (and_right _ _ k) (and_right _ _ h))
+between a b c d x h k = and_from _ _ (le_le c a x ((and_parts _ _ h).0) ((and_parts _ _ k).0)) (le_le x b d ((and_parts _ _ k).1) ((and_parts _ _ h).1))
 
 pub inside-yes : (c d : Class) (t : Lexeme) → inside c d ≡ true → matches c t ≡ true → matches d t ≡ true
 inside-yes (fixed b) d t h p = of_word t b d p ∙ h
-inside-yes (among bs) d t h p = one_of-each t bs d (and_left _ _ p) (and_right _ _ p) h
+inside-yes (among bs) d t h p = one_of-each t bs d ((and_parts _ _ p).0) ((and_parts _ _ p).1) h
 inside-yes name name t h p = p
 inside-yes text text t h p = p
-inside-yes (number l m) (number x y) t h p = and-both _ _ (and_left _ _ p) (between l m x y _ h (and_right _ _ p))
-inside-yes (named b) name t h p = and_left _ _ p
+inside-yes (number l m) (number x y) t h p = and_from _ _ ((and_parts _ _ p).0) (between l m x y _ h ((and_parts _ _ p).1))
+inside-yes (named b) name t h p = (and_parts _ _ p).0
 inside-yes (named b) (named d) t h p =
-    let e : t.bytes ≡ b = same_bytes t.bytes b (and_right _ _ p) in
-    and-both (is_name t.kind) (bytes_eq t.bytes d) (and_left _ _ p) (rw e h)
+    let e : t.bytes ≡ b = same_bytes t.bytes b ((and_parts _ _ p).1) in
+    and_from (is_name t.kind) (bytes_eq t.bytes d) ((and_parts _ _ p).0) (rw e h)
 inside-yes (named d) (other b) t h p = of_kind t b (rw (of_named t d p) refl)
 inside-yes name (other b) t h p = of_kind t b (rw (of_name t p) refl)
 inside-yes text (other b) t h p = of_kind t b (rw (of_text t p) refl)
@@ -182,15 +182,15 @@ matches_any (c ∷ cs) t = matches c t || matches_any cs t
 
 pub starts_of : (cs : List Class) (d : Class) (t : Lexeme) → all_inside cs d ≡ true → matches_any cs t ≡ true → matches d t ≡ true
 starts_of [] d t h p = absurd (cc)
-starts_of (c ∷ cs) d t h p = or-cases (matches c t) (matches_any cs t) p (λ e. inside-yes c d t (and_left _ _ h) e) (λ e. starts_of cs d t (and_right _ _ h) e)
+starts_of (c ∷ cs) d t h p = or-cases (matches c t) (matches_any cs t) p (λ e. inside-yes c d t ((and_parts _ _ h).0) e) (λ e. starts_of cs d t ((and_parts _ _ h).1) e)
 
 pub apart_from-no : (c : Class) (ds : List Class) (t : Lexeme) → apart_from c ds ≡ true → matches c t ≡ true → matches_any ds t ≡ true → ⊥
 apart_from-no c [] t h p q = cc
-apart_from-no c (d ∷ ds) t h p q = or-cases (matches d t) (matches_any ds t) q (λ e. apart-no c d t (and_left _ _ h) p e) (λ e. apart_from-no c ds t (and_right _ _ h) p e)
+apart_from-no c (d ∷ ds) t h p q = or-cases (matches d t) (matches_any ds t) q (λ e. apart-no c d t ((and_parts _ _ h).0) p e) (λ e. apart_from-no c ds t ((and_parts _ _ h).1) p e)
 
 pub all_apart-no : (cs ds : List Class) (t : Lexeme) → all_apart cs ds ≡ true → matches_any cs t ≡ true → matches_any ds t ≡ true → ⊥
 all_apart-no [] ds t h p q = cc
-all_apart-no (c ∷ cs) ds t h p q = or-cases (matches c t) (matches_any cs t) p (λ e. apart_from-no c ds t (and_left _ _ h) e q) (λ e. all_apart-no cs ds t (and_right _ _ h) e q)
+all_apart-no (c ∷ cs) ds t h p q = or-cases (matches c t) (matches_any cs t) p (λ e. apart_from-no c ds t ((and_parts _ _ h).0) e q) (λ e. all_apart-no cs ds t ((and_parts _ _ h).1) e q)
 
 pub or_assoc : (a b c : Bool) → (a || (b || c)) ≡ ((a || b) || c)
 or_assoc true b c = refl

@@ -1,13 +1,13 @@
 -- What is derived is read again, whatever follows that does not go on with it.
 use Rattle.std.proofs.Common.{◌≡◌, ℕ, zero, suc, ◌≤◌, ◌<◌, Bool, true, false, ◌&&◌, not, cond, List, [], ◌∷◌, ◌++◌, length, ◌⊎◌, inl, inr, refl, sym, ◌∙◌, ap, append_assoc, arith, length-append}
-use Rattle.reo_values.proofs.Truths.{and_left, and_right}
+use Rattle.std.proofs.lemmas.Bool.{and_parts, or_left, or_right}
 use Rattle.reo_grammar.specs.Tokens.{Lexeme, Class, matches}
 use Rattle.reo_grammar.specs.Conditions.{is_nullable, is_productive}
 use Rattle.reo_grammar.specs.Sight.{apart_from, all_apart, all_inside, firsts, mores, is_sighted}
 use Rattle.reo_grammar.specs.Grammar.{Grammar, Outcome, Derives, Links, read, loop, then, starts, line_of}
 use Rattle.reo_grammar.specs.Grammar.Grammar.{nothing, token, both, made, either, chain, lined, rule}
 use Rattle.reo_grammar.specs.Grammar.Outcome.{got, bad, out}
-use Rattle.reo_grammar.proofs.Sound.{Good, Base, good, or-left, or-right, not-true, null, line_of-append}
+use Rattle.reo_grammar.proofs.Sound.{Good, Base, good, not-true, null, line_of-append}
 use Rattle.reo_grammar.proofs.Classes.{matches_any, false-not, starts_of, apart_from-no, all_apart-no, matches_any-append}
 
 -- Nothing of these classes stands next.
@@ -17,15 +17,15 @@ Stops cs (t ∷ ts) = matches_any cs t ≡ true → ⊥
 
 pub Stops-left : (cs ds : List Class) (s : List Lexeme) → Stops (cs ++ ds) s → Stops cs s
 Stops-left cs ds [] h = tt
-Stops-left cs ds (t ∷ s) h = λ e. h (matches_any-append cs ds t ∙ or-left _ _ e)
+Stops-left cs ds (t ∷ s) h = λ e. h (matches_any-append cs ds t ∙ or_left _ _ e)
 
 pub Stops-right : (cs ds : List Class) (s : List Lexeme) → Stops (cs ++ ds) s → Stops ds s
 Stops-right cs ds [] h = tt
-Stops-right cs ds (t ∷ s) h = λ e. h (matches_any-append cs ds t ∙ or-right _ _ e)
+Stops-right cs ds (t ∷ s) h = λ e. h (matches_any-append cs ds t ∙ or_right _ _ e)
 
 pub Stops-starts : (c : Class) (cs : List Class) (s : List Lexeme) → Stops (c ∷ cs) s → starts c s ≡ false
 Stops-starts c cs [] h = refl
-Stops-starts c cs (t ∷ s) h = false-not (matches c t) (λ e. h (or-left _ _ e))
+Stops-starts c cs (t ∷ s) h = false-not (matches c t) (λ e. h (or_left _ _ e))
 
 pub split_front : (a b ts : List Lexeme) (t : Lexeme) → t ∷ ts ≡ a ++ b → (([] ≡ a) × (t ∷ ts ≡ b)) ⊎ ((c : List Lexeme) × (a ≡ t ∷ c))
 split_front [] b ts t e = inl (refl, e)
@@ -40,10 +40,10 @@ cond-false true x y h = absurd (cc)
 cond-false false x y h = refl
 
 any-left : (cs ds : List Class) (t : Lexeme) → matches_any cs t ≡ true → matches_any (cs ++ ds) t ≡ true
-any-left cs ds t h = matches_any-append cs ds t ∙ or-left _ _ h
+any-left cs ds t h = matches_any-append cs ds t ∙ or_left _ _ h
 
 any-right : (cs ds : List Class) (t : Lexeme) → matches_any ds t ≡ true → matches_any (cs ++ ds) t ≡ true
-any-right cs ds t h = matches_any-append cs ds t ∙ or-right _ _ h
+any-right cs ds t h = matches_any-append cs ds t ∙ or_right _ _ h
 
 -- What is derived begins with a first token.
 pub begin : {Ref : Type 0} {tree : Ref → Type 0} {A : Type 0} (F : Ref → List Class) (R : (r : Ref) → List Lexeme → tree r → Type 0)
@@ -51,7 +51,7 @@ pub begin : {Ref : Type 0} {tree : Ref → Type 0} {A : Type 0} (F : Ref → Lis
     (each : (r : Ref) (ts : List Lexeme) (t : Lexeme) (us : List Lexeme) (x : tree r) → t ∷ us ≡ ts → R r ts x → matches_any (F r) t ≡ true)
     (g : Grammar Ref tree A) (ts : List Lexeme) (t : Lexeme) (us : List Lexeme) (x : A) → t ∷ us ≡ ts → Derives R g ts x → matches_any (firsts F g) t ≡ true
 begin F R never each (nothing y) ts t us x e d = absurd (let k = e ∙ d.0 in cc)
-begin F R never each (token c) ts t us x e d = let k : t ≡ x = (let w = e ∙ d.0 in cc) in or-left (matches c t) false (rw k d.1)
+begin F R never each (token c) ts t us x e d = let k : t ≡ x = (let w = e ∙ d.0 in cc) in or_left (matches c t) false (rw k d.1)
 begin F R never each (both f g h) ts t us x e (a, b, y, z, w, d1, d2, _) =
     elim (split_front a b us t (e ∙ w)) [
       | inl p ↦ any-right (firsts F g) (cond (is_nullable g) (firsts F h) []) t (rw (cond-true (is_nullable g) (firsts F h) [] (null R never g a y p.0 d1)) (begin F R never each h b t us z p.1 d2))
@@ -132,7 +132,7 @@ pub record Ready (Ref : Type 0) (tree : Ref → Type 0) : Type 1 where
   pub complete : (r : Ref) (ts s : List Lexeme) (x : tree r) → given r ts x → Stops (more r) s → base.reader r (ts ++ s) ≡ got x s
 
 five : (a b c d e : Bool) → (a && (b && (c && (d && e)))) ≡ true → (a ≡ true) × (b ≡ true) × (c ≡ true) × (d ≡ true) × (e ≡ true)
-five true true true d e h = (refl, refl, refl, and_left _ _ h, and_right _ _ h)
+five true true true d e h = (refl, refl, refl, (and_parts _ _ h).0, (and_parts _ _ h).1)
 five false b c d e h = absurd (cc)
 five true false c d e h = absurd (cc)
 five true true false d e h = absurd (cc)
@@ -177,35 +177,35 @@ module _ {Ref : Type 0} {tree : Ref → Type 0} (k : Ready Ref tree) where
   complete (nothing y) p i ts s x (e, w) st = rw (e, w) refl
   complete (token c) p i ts s x (e, m) st = rw (e, m) refl
   complete (both f g h) p i ts s x (a, b, y, z, w, d1, d2, v) st =
-      let st1 : Stops (mores k.more g) (b ++ s) = between k.first k.more k.given k.never k.begins g h b s z (and_left _ _ i) d2 (Stops-right (mores k.more h) (cond (is_nullable h) (mores k.more g) []) s st) in
+      let st1 : Stops (mores k.more g) (b ++ s) = between k.first k.more k.given k.never k.begins g h b s z ((and_parts _ _ i).0) d2 (Stops-right (mores k.more h) (cond (is_nullable h) (mores k.more g) []) s st) in
       let st2 : Stops (mores k.more h) s = Stops-left (mores k.more h) (cond (is_nullable h) (mores k.more g) []) s st in
-      let e1 : read k.base.reader g (a ++ (b ++ s)) ≡ got y (b ++ s) = complete g (and_left _ _ p) (and_left _ _ (and_right _ _ i)) a (b ++ s) y d1 st1 in
-      let e2 : read k.base.reader h (b ++ s) ≡ got z s = complete h (and_right _ _ p) (and_right _ _ (and_right _ _ i)) b s z d2 st2 in
+      let e1 : read k.base.reader g (a ++ (b ++ s)) ≡ got y (b ++ s) = complete g ((and_parts _ _ p).0) ((and_parts _ _ ((and_parts _ _ i).1)).0) a (b ++ s) y d1 st1 in
+      let e2 : read k.base.reader h (b ++ s) ≡ got z s = complete h ((and_parts _ _ p).1) ((and_parts _ _ ((and_parts _ _ i).1)).1) b s z d2 st2 in
       rw (w, append_assoc a b s, e1, e2, v) refl
   complete (made f g) p i ts s x (y, d, v) st = rw (complete g p i ts s y d st, v) refl
   complete (either c g h) p i ts s x (inl d) st =
       let q = five (not (is_nullable g)) (all_inside (firsts k.first g) c) (apart_from c (firsts k.first h)) (is_sighted k.first k.more g) (is_sighted k.first k.more h) i in
       let e : starts c (ts ++ s) ≡ true = starts-yes g c ts s x q.1 q.0 d in
-      let e2 : read k.base.reader g (ts ++ s) ≡ got x s = complete g (and_left _ _ p) q.3 ts s x d
+      let e2 : read k.base.reader g (ts ++ s) ≡ got x s = complete g ((and_parts _ _ p).0) q.3 ts s x d
       (Stops-left (mores k.more g) (mores k.more h) s (Stops-right (cond (is_nullable h) (c ∷ []) []) (mores k.more g ++ mores k.more h) s st)) in
       rw (e, e2) refl
   complete (either c g h) p i ts s x (inr d) st =
       let q = five (not (is_nullable g)) (all_inside (firsts k.first g) c) (apart_from c (firsts k.first h)) (is_sighted k.first k.more g) (is_sighted k.first k.more h) i in
       let e : starts c (ts ++ s) ≡ false = starts-no h c (mores k.more g ++ mores k.more h) ts s x q.2 d st in
-      let e2 : read k.base.reader h (ts ++ s) ≡ got x s = complete h (and_right _ _ p) q.4 ts s x d
+      let e2 : read k.base.reader h (ts ++ s) ≡ got x s = complete h ((and_parts _ _ p).1) q.4 ts s x d
       (Stops-right (mores k.more g) (mores k.more h) s (Stops-right (cond (is_nullable h) (c ∷ []) []) (mores k.more g ++ mores k.more h) s st)) in
       rw (e, e2) refl
   complete (chain f c g h) p i ts s x (n, l) st =
       let q = five (not (is_nullable h)) (all_inside (firsts k.first h) c) (apart_from c (mores k.more g ++ mores k.more h)) (is_sighted k.first k.more g) (is_sighted k.first k.more h) i in
       links f c g h
-      (λ a r y d t. complete g (and_left _ _ (and_right _ _ p)) q.3 a r y d t)
-      (λ a r y d t. complete h (and_right _ _ (and_right _ _ p)) q.4 a r y d t)
-      (shrinks k.base h (and_right _ _ (and_right _ _ p)) q.0) q.0 q.1 q.2
+      (λ a r y d t. complete g ((and_parts _ _ ((and_parts _ _ p).1)).0) q.3 a r y d t)
+      (λ a r y d t. complete h ((and_parts _ _ ((and_parts _ _ p).1)).1) q.4 a r y d t)
+      (shrinks k.base h ((and_parts _ _ ((and_parts _ _ p).1)).1) q.0) q.0 q.1 q.2
       n ts s x l (Stops-right (c ∷ []) (mores k.more g ++ mores k.more h) s st)
       ∙ loop-ends f c (read k.base.reader h) x s (Stops-starts c (mores k.more g ++ mores k.more h) s st)
   complete (lined f g) p i ts s x (y, d, v) st =
-      let e : read k.base.reader g (ts ++ s) ≡ got y s = complete g (and_right _ _ p) i ts s y d st in
-      let e2 : line_of (ts ++ s) ≡ line_of ts = line_of-append ts s (λ w. not-true (is_nullable g) (and_left _ _ p) (null k.given k.never g ts y w d)) in
+      let e : read k.base.reader g (ts ++ s) ≡ got y s = complete g ((and_parts _ _ p).1) i ts s y d st in
+      let e2 : line_of (ts ++ s) ≡ line_of ts = line_of-append ts s (λ w. not-true (is_nullable g) ((and_parts _ _ p).0) (null k.given k.never g ts y w d)) in
       rw (e, e2, v) refl
   complete (rule r) p i ts s x d st = k.complete r ts s x d st
 

@@ -1,6 +1,6 @@
 -- A depth above the number of tokens is enough.
 use Rattle.std.proofs.Common.{◌≡◌, ℕ, zero, suc, ◌≤◌, ◌<◌, Bool, true, false, not, cond, List, [], ◌∷◌, length, inl, inr, refl, ap, arith, length-append}
-use Rattle.reo_values.proofs.Truths.{and_left, and_right}
+use Rattle.std.proofs.lemmas.Bool.{and_parts}
 use Rattle.reo_grammar.specs.Tokens.{Lexeme, Class, matches}
 use Rattle.reo_grammar.specs.Conditions.{is_nullable, is_productive, is_guarded}
 use Rattle.reo_grammar.specs.Grammar.{Grammar, Outcome, Derives, Links, read, reads, Within, loop, then, token_at, starts, line_of}
@@ -51,37 +51,37 @@ module _ {Ref : Type 0} {tree : Ref → Type 0} (k : Base Ref tree) (also : (r :
   below (nothing x) p ts h = Fine-got x ts
   below (token c) p ts h = Fine-at c ts
   below (both f g i) p ts h =
-      Fine-then (read k.reader g ts) (read also g ts) _ _ (below g (and_left _ _ p) ts h)
+      Fine-then (read k.reader g ts) (read also g ts) _ _ (below g ((and_parts _ _ p).0) ts h)
       (λ x s e. Fine-then (read k.reader i s) (read also i s) (λ y q. got (f x y) q) (λ y q. got (f x y) q)
-      (below i (and_right _ _ p) s (let l : length s ≤ length ts = keeps k g (and_left _ _ p) ts x s e in omega arith)) (λ y q e2. Fine-got (f x y) q))
+      (below i ((and_parts _ _ p).1) s (let l : length s ≤ length ts = keeps k g ((and_parts _ _ p).0) ts x s e in omega arith)) (λ y q e2. Fine-got (f x y) q))
   below (made f g) p ts h = Fine-then (read k.reader g ts) (read also g ts) (λ x s. got (f x) s) (λ x s. got (f x) s) (below g p ts h) (λ x s e. Fine-got (f x) s)
-  below (either c g i) p ts h = Fine-if (starts c ts) _ _ _ _ (below g (and_left _ _ p) ts h) (below i (and_right _ _ p) ts h)
+  below (either c g i) p ts h = Fine-if (starts c ts) _ _ _ _ (below g ((and_parts _ _ p).0) ts h) (below i ((and_parts _ _ p).1) ts h)
   below (chain f c g i) p ts h =
       Fine-then (read k.reader g ts) (read also g ts) (λ x s. loop f c (read k.reader i) (length s) x s) (λ x s. loop f c (read also i) (length s) x s)
-      (below g (and_left _ _ (and_right _ _ p)) ts h)
-      (λ x s e. loop-fine f c (read k.reader i) (read also i) (length ts) (λ q l. below i (and_right _ _ (and_right _ _ p)) q (omega arith)) (keeps k i (and_right _ _ (and_right _ _ p))) (length s) x s
-      (keeps k g (and_left _ _ (and_right _ _ p)) ts x s e))
-  below (lined f g) p ts h = Fine-then (read k.reader g ts) (read also g ts) (λ x s. got (f (line_of ts) x) s) (λ x s. got (f (line_of ts) x) s) (below g (and_right _ _ p) ts h) (λ x s e. Fine-got (f (line_of ts) x) s)
+      (below g ((and_parts _ _ ((and_parts _ _ p).1)).0) ts h)
+      (λ x s e. loop-fine f c (read k.reader i) (read also i) (length ts) (λ q l. below i ((and_parts _ _ ((and_parts _ _ p).1)).1) q (omega arith)) (keeps k i ((and_parts _ _ ((and_parts _ _ p).1)).1)) (length s) x s
+      (keeps k g ((and_parts _ _ ((and_parts _ _ p).1)).0) ts x s e))
+  below (lined f g) p ts h = Fine-then (read k.reader g ts) (read also g ts) (λ x s. got (f (line_of ts) x) s) (λ x s. got (f (line_of ts) x) s) (below g ((and_parts _ _ p).1) ts h) (λ x s e. Fine-got (f (line_of ts) x) s)
   below (rule r) p ts h = each r ts h
 
   pub fine : {A : Type 0} (g : Grammar Ref tree A) → is_productive g ≡ true → is_guarded g ≡ true → (ts : List Lexeme) → length ts ≤ n → Fine (read k.reader g ts) (read also g ts)
   fine (nothing x) p w ts h = Fine-got x ts
   fine (token c) p w ts h = Fine-at c ts
   fine (both f g i) p w ts h =
-      Fine-then (read k.reader g ts) (read also g ts) _ _ (fine g (and_left _ _ p) (and_left _ _ w) ts h)
+      Fine-then (read k.reader g ts) (read also g ts) _ _ (fine g ((and_parts _ _ p).0) ((and_parts _ _ w).0) ts h)
       (λ x s e. Fine-then (read k.reader i s) (read also i s) (λ y q. got (f x y) q) (λ y q. got (f x y) q)
-      (or-cases (not (is_nullable g)) (is_guarded i) (and_right _ _ w)
-      (λ nn. below i (and_right _ _ p) s (let l : length s < length ts = shrinks k g (and_left _ _ p) nn ts x s e in omega arith))
-      (λ gi. fine i (and_right _ _ p) gi s (let l : length s ≤ length ts = keeps k g (and_left _ _ p) ts x s e in omega arith)))
+      (or-cases (not (is_nullable g)) (is_guarded i) ((and_parts _ _ w).1)
+      (λ nn. below i ((and_parts _ _ p).1) s (let l : length s < length ts = shrinks k g ((and_parts _ _ p).0) nn ts x s e in omega arith))
+      (λ gi. fine i ((and_parts _ _ p).1) gi s (let l : length s ≤ length ts = keeps k g ((and_parts _ _ p).0) ts x s e in omega arith)))
       (λ y q e2. Fine-got (f x y) q))
   fine (made f g) p w ts h = Fine-then (read k.reader g ts) (read also g ts) (λ x s. got (f x) s) (λ x s. got (f x) s) (fine g p w ts h) (λ x s e. Fine-got (f x) s)
-  fine (either c g i) p w ts h = Fine-if (starts c ts) _ _ _ _ (fine g (and_left _ _ p) (and_left _ _ w) ts h) (fine i (and_right _ _ p) (and_right _ _ w) ts h)
+  fine (either c g i) p w ts h = Fine-if (starts c ts) _ _ _ _ (fine g ((and_parts _ _ p).0) ((and_parts _ _ w).0) ts h) (fine i ((and_parts _ _ p).1) ((and_parts _ _ w).1) ts h)
   fine (chain f c g i) p w ts h =
       Fine-then (read k.reader g ts) (read also g ts) (λ x s. loop f c (read k.reader i) (length s) x s) (λ x s. loop f c (read also i) (length s) x s)
-      (fine g (and_left _ _ (and_right _ _ p)) (and_left _ _ w) ts h)
-      (λ x s e. loop-fine f c (read k.reader i) (read also i) (length ts) (λ q l. fine i (and_right _ _ (and_right _ _ p)) (and_right _ _ w) q (omega arith)) (keeps k i (and_right _ _ (and_right _ _ p))) (length s) x s
-      (keeps k g (and_left _ _ (and_right _ _ p)) ts x s e))
-  fine (lined f g) p w ts h = Fine-then (read k.reader g ts) (read also g ts) (λ x s. got (f (line_of ts) x) s) (λ x s. got (f (line_of ts) x) s) (fine g (and_right _ _ p) w ts h) (λ x s e. Fine-got (f (line_of ts) x) s)
+      (fine g ((and_parts _ _ ((and_parts _ _ p).1)).0) ((and_parts _ _ w).0) ts h)
+      (λ x s e. loop-fine f c (read k.reader i) (read also i) (length ts) (λ q l. fine i ((and_parts _ _ ((and_parts _ _ p).1)).1) ((and_parts _ _ w).1) q (omega arith)) (keeps k i ((and_parts _ _ ((and_parts _ _ p).1)).1)) (length s) x s
+      (keeps k g ((and_parts _ _ ((and_parts _ _ p).1)).0) ts x s e))
+  fine (lined f g) p w ts h = Fine-then (read k.reader g ts) (read also g ts) (λ x s. got (f (line_of ts) x) s) (λ x s. got (f (line_of ts) x) s) (fine g ((and_parts _ _ p).1) w ts h) (λ x s e. Fine-got (f (line_of ts) x) s)
   fine (rule r) p w ts h = absurd (cc)
 
 -- Two depths above the number of tokens read alike, and neither runs out.

@@ -1,6 +1,6 @@
 -- A reader looks no further than the token that it refuses.
 use Rattle.std.proofs.Common.{◌≡◌, ℕ, zero, suc, ◌+◌, ◌≤◌, Bool, true, false, cond, List, [], ◌∷◌, ◌++◌, length, ◌⊎◌, inl, inr, refl, ap, arith, length-append}
-use Rattle.reo_values.proofs.Truths.{and_left, and_right}
+use Rattle.std.proofs.lemmas.Bool.{and_parts}
 use Rattle.reo_grammar.specs.Tokens.{Lexeme, Class, matches}
 use Rattle.reo_grammar.specs.Conditions.{is_productive}
 use Rattle.reo_grammar.specs.Grammar.{Grammar, Outcome, Derives, read, loop, then, starts, line_of}
@@ -97,24 +97,24 @@ module _ (t : Lexeme) (r r' : List Lexeme) where
     local (token c) p [] = Kept-here (matches c t)
     local (token c) p (u ∷ f) = Kept-at (matches c u) u f
     local (both j g h) p f =
-        Kept-then (read k.reader g (f ++ (t ∷ r))) (read k.reader g (f ++ (t ∷ r'))) _ _ (local g (and_left _ _ p) f)
-        (λ x f2. Kept-then (read k.reader h (f2 ++ (t ∷ r))) (read k.reader h (f2 ++ (t ∷ r'))) (λ y s. got (j x y) s) (λ y s. got (j x y) s) (local h (and_right _ _ p) f2) (λ y f3. inl (f3, refl, refl)) (λ y s i. i))
-        (λ x s i. Low-then (read k.reader h s) (λ y q. got (j x y) q) (read-low h (and_right _ _ p) s i) (λ y q i2. i2))
+        Kept-then (read k.reader g (f ++ (t ∷ r))) (read k.reader g (f ++ (t ∷ r'))) _ _ (local g ((and_parts _ _ p).0) f)
+        (λ x f2. Kept-then (read k.reader h (f2 ++ (t ∷ r))) (read k.reader h (f2 ++ (t ∷ r'))) (λ y s. got (j x y) s) (λ y s. got (j x y) s) (local h ((and_parts _ _ p).1) f2) (λ y f3. inl (f3, refl, refl)) (λ y s i. i))
+        (λ x s i. Low-then (read k.reader h s) (λ y q. got (j x y) q) (read-low h ((and_parts _ _ p).1) s i) (λ y q i2. i2))
     local (made j g) p f =
         Kept-then (read k.reader g (f ++ (t ∷ r))) (read k.reader g (f ++ (t ∷ r'))) (λ x s. got (j x) s) (λ x s. got (j x) s) (local g p f) (λ x f2. inl (f2, refl, refl)) (λ x s i. i)
-    local (either c g h) p f = rw (starts-alike c f) (Kept-if (starts c (f ++ (t ∷ r))) _ _ _ _ (local g (and_left _ _ p) f) (local h (and_right _ _ p) f))
+    local (either c g h) p f = rw (starts-alike c f) (Kept-if (starts c (f ++ (t ∷ r))) _ _ _ _ (local g ((and_parts _ _ p).0) f) (local h ((and_parts _ _ p).1) f))
     local (chain j c g h) p f =
         Kept-then (read k.reader g (f ++ (t ∷ r))) (read k.reader g (f ++ (t ∷ r'))) (λ x s. loop j c (read k.reader h) (length s) x s) (λ x s. loop j c (read k.reader h) (length s) x s)
-        (local g (and_left _ _ (and_right _ _ p)) f)
+        (local g ((and_parts _ _ ((and_parts _ _ p).1)).0) f)
         (λ x f2.
         let a = f2 ++ (t ∷ r) in let b = f2 ++ (t ∷ r') in
-        let e1 : loop j c (read k.reader h) (length a) x a ≡ loop j c (read k.reader h) (length a + length b) x a = loop-enough j c (read k.reader h) (shrinks k h (and_right _ _ (and_right _ _ p)) (and_left _ _ p)) (length a) (length a + length b) x a (omega arith) (omega arith) in
-        let e2 : loop j c (read k.reader h) (length b) x b ≡ loop j c (read k.reader h) (length a + length b) x b = loop-enough j c (read k.reader h) (shrinks k h (and_right _ _ (and_right _ _ p)) (and_left _ _ p)) (length b) (length a + length b) x b (omega arith) (omega arith) in
-        rw (e1, e2) (loop-kept j c (read k.reader h) (read-low h (and_right _ _ (and_right _ _ p))) (local h (and_right _ _ (and_right _ _ p))) (length a + length b) x f2))
-        (λ x s i. loop-low j c (read k.reader h) (read-low h (and_right _ _ (and_right _ _ p))) (local h (and_right _ _ (and_right _ _ p))) (length s) x s i)
+        let e1 : loop j c (read k.reader h) (length a) x a ≡ loop j c (read k.reader h) (length a + length b) x a = loop-enough j c (read k.reader h) (shrinks k h ((and_parts _ _ ((and_parts _ _ p).1)).1) ((and_parts _ _ p).0)) (length a) (length a + length b) x a (omega arith) (omega arith) in
+        let e2 : loop j c (read k.reader h) (length b) x b ≡ loop j c (read k.reader h) (length a + length b) x b = loop-enough j c (read k.reader h) (shrinks k h ((and_parts _ _ ((and_parts _ _ p).1)).1) ((and_parts _ _ p).0)) (length b) (length a + length b) x b (omega arith) (omega arith) in
+        rw (e1, e2) (loop-kept j c (read k.reader h) (read-low h ((and_parts _ _ ((and_parts _ _ p).1)).1)) (local h ((and_parts _ _ ((and_parts _ _ p).1)).1)) (length a + length b) x f2))
+        (λ x s i. loop-low j c (read k.reader h) (read-low h ((and_parts _ _ ((and_parts _ _ p).1)).1)) (local h ((and_parts _ _ ((and_parts _ _ p).1)).1)) (length s) x s i)
     local (lined j g) p f = rw (line-alike f)
         (Kept-then (read k.reader g (f ++ (t ∷ r))) (read k.reader g (f ++ (t ∷ r'))) (λ x s. got (j (line_of (f ++ (t ∷ r))) x) s) (λ x s. got (j (line_of (f ++ (t ∷ r))) x) s)
-        (local g (and_right _ _ p) f) (λ x f2. inl (f2, refl, refl)) (λ x s i. i))
+        (local g ((and_parts _ _ p).1) f) (λ x f2. inl (f2, refl, refl)) (λ x s i. i))
     local (rule q) p f = each q f
 
 -- What is refused at a token is refused there, whatever follows it.

@@ -1,13 +1,12 @@
 -- What is got is derived, and what stands before a bad token begins something derived.
 use Rattle.std.proofs.Common.{◌≡◌, ℕ, zero, suc, Bool, true, false, not, cond, List, [], ◌∷◌, ◌++◌, length, inl, inr, refl, sym, ◌∙◌, ap, append_assoc, append-nil}
+use Rattle.std.proofs.lemmas.Bool.{and_parts, or_left, or_right, and_from}
 use Rattle.reo_grammar.specs.Tokens.{Lexeme, Class, matches, AreReal}
 use Rattle.reo_grammar.specs.Conditions.{sample, is_nullable, is_productive}
 use Rattle.reo_grammar.specs.Language.{Sound}
 use Rattle.reo_grammar.specs.Grammar.{Grammar, Outcome, Derives, Links, read, reads, Within, loop, then, starts, line_of}
 use Rattle.reo_grammar.specs.Grammar.Grammar.{nothing, token, both, made, either, chain, lined, rule}
 use Rattle.reo_grammar.specs.Grammar.Outcome.{got, bad, out}
-pub use Rattle.std.proofs.lemmas.Bool.{or_left as or-left, or_right as or-right, and_from as and-both}
-use Rattle.reo_values.proofs.Truths.{and_left, and_right}
 
 pub real-append : (a b : List Lexeme) → AreReal a → AreReal b → AreReal (a ++ b)
 real-append [] b h k = k
@@ -31,15 +30,15 @@ Good D ts out = Unit {0}
 pub some : {Ref : Type 0} {tree : Ref → Type 0} {A : Type 0} (R : (r : Ref) → List Lexeme → tree r → Type 0) (each : (r : Ref) → Some (R r))
     (g : Grammar Ref tree A) → is_productive g ≡ true → Some (Derives R g)
 some R each (nothing x) p = ([], x, tt, (refl, refl))
-some R each (token c) p = (sample c ∷ [], sample c, (and_right _ _ p, tt), (refl, and_left _ _ p))
+some R each (token c) p = (sample c ∷ [], sample c, ((and_parts _ _ p).1, tt), (refl, (and_parts _ _ p).0))
 some R each (both f g h) p =
-    let (a, x, r, d) = some R each g (and_left _ _ p) in
-    let (b, y, q, e) = some R each h (and_right _ _ p) in
+    let (a, x, r, d) = some R each g ((and_parts _ _ p).0) in
+    let (b, y, q, e) = some R each h ((and_parts _ _ p).1) in
     (a ++ b, f x y, real-append a b r q, (a, b, x, y, refl, d, e, refl))
 some R each (made f g) p = let (a, x, r, d) = some R each g p in (a, f x, r, (x, d, refl))
-some R each (either c g h) p = let (a, x, r, d) = some R each g (and_left _ _ p) in (a, x, r, inl d)
-some R each (chain f c g h) p = let (a, x, r, d) = some R each g (and_left _ _ (and_right _ _ p)) in (a, x, r, (0, d))
-some R each (lined f g) p = let (a, x, r, d) = some R each g (and_right _ _ p) in (a, f (line_of a) x, r, (x, d, refl))
+some R each (either c g h) p = let (a, x, r, d) = some R each g ((and_parts _ _ p).0) in (a, x, r, inl d)
+some R each (chain f c g h) p = let (a, x, r, d) = some R each g ((and_parts _ _ ((and_parts _ _ p).1)).0) in (a, x, r, (0, d))
+some R each (lined f g) p = let (a, x, r, d) = some R each g ((and_parts _ _ p).1) in (a, f (line_of a) x, r, (x, d, refl))
 some R each (rule r) p = each r
 
 -- A step after a first part.
@@ -67,10 +66,10 @@ null R never (nothing y) ts x e d = refl
 null R never (token c) ts x e d = absurd (let k = e ∙ d.0 in cc)
 null R never (both f g h) ts x e (a, b, y, z, w, d1, d2, _) =
     let (ea, eb) = append-empty a b (e ∙ w) in
-    and-both _ _ (null R never g a y ea d1) (null R never h b z eb d2)
+    and_from _ _ (null R never g a y ea d1) (null R never h b z eb d2)
 null R never (made f g) ts x e (y, d, _) = null R never g ts y e d
-null R never (either c g h) ts x e (inl d) = or-left _ _ (null R never g ts x e d)
-null R never (either c g h) ts x e (inr d) = or-right _ _ (null R never h ts x e d)
+null R never (either c g h) ts x e (inl d) = or_left _ _ (null R never g ts x e d)
+null R never (either c g h) ts x e (inr d) = or_right _ _ (null R never h ts x e d)
 null R never (chain f c g h) ts x e (zero, d) = null R never g ts x e d
 null R never (chain f c g h) ts x e (suc n, (a, b, y, z, w, d1, d2, _)) = null R never (chain f c g h) a y (append-empty a b (e ∙ w)).0 (n, d1)
 null R never (lined f g) ts x e (y, d, _) = null R never g ts y e d
@@ -128,29 +127,29 @@ loop-good f c next D H h (suc n) whole a ts m x e l =
 
 pub good : {Ref : Type 0} {tree : Ref → Type 0} {A : Type 0} (k : Base Ref tree) (g : Grammar Ref tree A) → is_productive g ≡ true → (ts : List Lexeme) → Good (Derives k.derives g) ts (read k.reader g ts)
 good k (nothing x) p ts = ([], refl, (refl, refl))
-good k (token c) p [] = ([], refl, (sample c ∷ [], sample c, (and_right _ _ p, tt), (refl, and_left _ _ p)))
+good k (token c) p [] = ([], refl, (sample c ∷ [], sample c, ((and_parts _ _ p).1, tt), (refl, (and_parts _ _ p).0)))
 good k (token c) p (t ∷ ts) = tested (matches c t) refl
   where
     tested : (b : Bool) → matches c t ≡ b → Good (Derives k.derives (token c)) (t ∷ ts) (cond b (got t ts) (bad (t ∷ ts)))
     tested true e = (t ∷ [], refl, (refl, e))
-    tested false e = ([], refl, (sample c ∷ [], sample c, (and_right _ _ p, tt), (refl, and_left _ _ p)))
+    tested false e = ([], refl, (sample c ∷ [], sample c, ((and_parts _ _ p).1, tt), (refl, (and_parts _ _ p).0)))
 good k (both f g h) p ts =
-    Good-then (Derives k.derives g) (Derives k.derives (both f g h)) ts (read k.reader g ts) _ (good k g (and_left _ _ p) ts)
-    (λ a s x e d. Good-after (Derives k.derives h) (Derives k.derives (both f g h)) (f x) a s ts (read k.reader h s) e (good k h (and_right _ _ p) s)
+    Good-then (Derives k.derives g) (Derives k.derives (both f g h)) ts (read k.reader g ts) _ (good k g ((and_parts _ _ p).0) ts)
+    (λ a s x e d. Good-after (Derives k.derives h) (Derives k.derives (both f g h)) (f x) a s ts (read k.reader h s) e (good k h ((and_parts _ _ p).1) s)
     (λ b y d2. (a, b, x, y, refl, d, d2, refl)))
-    (λ a x d. let (b, y, q, d2) = some k.derives k.each h (and_right _ _ p) in (b, f x y, q, (a, b, x, y, refl, d, d2, refl)))
+    (λ a x d. let (b, y, q, d2) = some k.derives k.each h ((and_parts _ _ p).1) in (b, f x y, q, (a, b, x, y, refl, d, d2, refl)))
 good k (made f g) p ts =
     Good-after (Derives k.derives g) (Derives k.derives (made f g)) f [] ts ts (read k.reader g ts) refl (good k g p ts) (λ b y d. (y, d, refl))
 good k (either c g h) p ts =
     Good-if (Derives k.derives (either c g h)) ts (starts c ts) (read k.reader g ts) (read k.reader h ts)
-    (Good-map (Derives k.derives g) (Derives k.derives (either c g h)) ts (read k.reader g ts) (λ a x d. inl d) (good k g (and_left _ _ p) ts))
-    (Good-map (Derives k.derives h) (Derives k.derives (either c g h)) ts (read k.reader h ts) (λ a x d. inr d) (good k h (and_right _ _ p) ts))
+    (Good-map (Derives k.derives g) (Derives k.derives (either c g h)) ts (read k.reader g ts) (λ a x d. inl d) (good k g ((and_parts _ _ p).0) ts))
+    (Good-map (Derives k.derives h) (Derives k.derives (either c g h)) ts (read k.reader h ts) (λ a x d. inr d) (good k h ((and_parts _ _ p).1) ts))
 good k (chain f c g h) p ts =
-    Good-then (Derives k.derives g) (Derives k.derives (chain f c g h)) ts (read k.reader g ts) _ (good k g (and_left _ _ (and_right _ _ p)) ts)
-    (λ a s x e d. loop-good f c (read k.reader h) (Derives k.derives g) (Derives k.derives h) (good k h (and_right _ _ (and_right _ _ p))) (length s) ts a s zero x e d)
+    Good-then (Derives k.derives g) (Derives k.derives (chain f c g h)) ts (read k.reader g ts) _ (good k g ((and_parts _ _ ((and_parts _ _ p).1)).0) ts)
+    (λ a s x e d. loop-good f c (read k.reader h) (Derives k.derives g) (Derives k.derives h) (good k h ((and_parts _ _ ((and_parts _ _ p).1)).1)) (length s) ts a s zero x e d)
     (λ a x d. ([], x, tt, (zero, rw append-nil d)))
-good k (lined f g) p ts = lined-good f (read k.reader g ts) (Derives k.derives g) ts (good k g (and_right _ _ p) ts)
-    (λ a x e d. not-true _ (and_left _ _ p) (null k.derives k.never g a x e d))
+good k (lined f g) p ts = lined-good f (read k.reader g ts) (Derives k.derives g) ts (good k g ((and_parts _ _ p).1) ts)
+    (λ a x e d. not-true _ ((and_parts _ _ p).0) (null k.derives k.never g a x e d))
   where
     lined-good : {A B : Type 0} (f : ℕ → A → B) (o : Outcome A) (D : List Lexeme → A → Type 0) (ts : List Lexeme) → Good D ts o → ((a : List Lexeme) (x : A) → [] ≡ a → D a x → ⊥)
         → Good (λ a z. (x : A) × D a x × (f (line_of a) x ≡ z)) ts (then o (λ x r. got (f (line_of ts) x) r))

@@ -1,5 +1,6 @@
 -- Bounds that are kept stay right.
 use Rattle.std.proofs.Common.{◌≡◌, ◌∙◌, inl, inr, ℕ, zero, suc, ◌+◌, ◌<◌, ◌≤◌, Bool, List, Option, Some, None, length, replicate, get_or, get_or-set_same, get_or-set_other, set, refl, ap, sym, subst, arith}
+use Rattle.std.proofs.lemmas.Bool.{cases_eq}
 use Rattle.std.specs.Prelude.{Contains, ◌↔◌}
 use Rattle.std.proofs.lemmas.List.{length-set, length-replicate}
 use Rattle.reo_values.proofs.Distinct.{below_or_last}
@@ -13,7 +14,6 @@ use Rattle.reo_net_base.specs.SameTables.{SameTable}
 use Rattle.reo_net_base.specs.Shapes.{SameShapes}
 use Rattle.reo_net_base.specs.Wired.{IsWired}
 use Rattle.reo_net_base.proofs.Numbers.{one_table}
-use Rattle.reo_net_circuit.proofs.Cases.{eq_cases}
 use Rattle.reo_net_circuit.proofs.ReshapeLemmas.{same_shape}
 use Rattle.reo_net_laws.specs.Parts.{IsClosed}
 use Rattle.reo_net_laws.proofs.Shapes.{shapes_twice}
@@ -58,7 +58,7 @@ module _ (net : Net) (kept : Bounds) (are : AreKeptBounds net kept) where
   exchanged j lt new right = record {
     one_bound = are.one_bound;
     one_number = length-set kept.numbers j new ∙ are.one_number;
-    right = λ k number k_in is. elim (eq_cases k j) [
+    right = λ k number k_in is. elim (cases_eq k j) [
       | inl e ↦ subst (IsBoundBy net kept.bounds number) (sym e) (right number (sym (get_or-set_same kept.numbers j new None (omega (arith, lt, are.one_number))) ∙ ap (λ (m : ℕ). get_or (set kept.numbers j new) m None) (sym e) ∙ is))
       | inr ne ↦ are.right k number k_in (sym (get_or-set_other kept.numbers j k new None ne) ∙ is)
     ];
@@ -120,7 +120,7 @@ part_holds net inside closed joints exact k j is lt same =
 -- One joint more has no number.
 pub unnumbered_more : (numbers : List (Option ℕ)) (joints : List ℕ) (index m : ℕ) → get_or joints index 0 < length numbers → ((n : ℕ) → n < index → get_or numbers (get_or joints n 0) None ≡ None)
     → m < index + 1 → get_or (set numbers (get_or joints index 0) None) (get_or joints m 0) None ≡ None
-unnumbered_more numbers joints index m in_range far lt = elim (eq_cases (get_or joints m 0) (get_or joints index 0)) [
+unnumbered_more numbers joints index m in_range far lt = elim (cases_eq (get_or joints m 0) (get_or joints index 0)) [
   | inl e ↦ ap (λ (k : ℕ). get_or (set numbers (get_or joints index 0) None) k None) e ∙ get_or-set_same numbers (get_or joints index 0) None None in_range
   | inr ne ↦
       let before : get_or numbers (get_or joints m 0) None ≡ None = elim (below_or_last m index lt) [ inl below ↦ far m below | inr same ↦ absurd (ne (ap (λ (k : ℕ). get_or joints k 0) same)) ] in

@@ -17,7 +17,7 @@ use Rattle.reo_net_base.specs.Wired.{IsWired, IsEnd, IsOrder}
 use Rattle.reo_net_laws.specs.Ends.{mark_in, from_in}
 use Rattle.reo_net_laws.specs.Parts.{IsClosed, IsAssignment}
 use Rattle.reo_net_laws.proofs.Items.{along_order, some_item}
-use Rattle.reo_net_laws.proofs.Sides.{row_is, side_in_range}
+use Rattle.reo_joint_values.proofs.Sides.{row_is, side_in_range}
 use Rattle.reo_joint_values.specs.declared.value.JointValue.{JointValue}
 use Rattle.reo_joint_values.specs.declared.value.JointValue.TheVariants.{Flow, RG, GR, GG, Jam}
 use Rattle.reo_joint_values.specs.Values.{giver_mark, taker_mark, Names, Choice, item_named, items_of, no_joint, joint_of, giver_side, taker_side}

@@ -1,6 +1,6 @@
 -- Each assignment by rows and items whose items have numbers is one by values, and the first is the first.
 use Rattle.std.proofs.Common.{◌≡◌, ◌≢◌, inl, inr, ℕ, ◌<◌, List, Bool, true, length, get_or, Option, None, Some, IsSome, refl, ap, sym, ◌∙◌, subst, arith}
-use Rattle.std.proofs.lemmas.Bool.{cases_Bool}
+use Rattle.std.proofs.lemmas.Bool.{cases_Bool, cases_lt}
 use Rattle.std.proofs.lemmas.List.{ext_get_or, get_or_default}
 use Rattle.std.proofs.lemmas.List.FromFn.{get_or-map-range_with_len, length-map-range_with_len}
 use Rattle.std.specs.declared.cmp.Ordering.TheVariants.{Less}
@@ -18,7 +18,7 @@ use Rattle.reo_net_base.specs.Wired.{IsWired, IsEnd}
 use Rattle.reo_net_laws.specs.Parts.{IsClosed, IsAssignment}
 use Rattle.reo_net_laws.specs.Keys.{within}
 use Rattle.reo_net_laws.proofs.Items.{given_same, some_item}
-use Rattle.reo_net_laws.proofs.Sides.{below_or, row_is, same_side_at, row_in_table, gives_at}
+use Rattle.reo_joint_values.proofs.Sides.{row_is, same_side_at, row_in_table, gives_at}
 use Rattle.reo_joint_values.specs.declared.value.JointValue.{JointValue}
 use Rattle.reo_joint_values.specs.declared.value.JointValue.TheVariants.{Flow, RG, GR, GG, Jam}
 use Rattle.reo_joint_values.specs.Values.{giver_mark, taker_mark, Names, Choice, Family, item_named, items_of, no_joint, joint_of, giver_side, taker_side, AtSide}
@@ -101,7 +101,7 @@ module _ (net : Net) (wired : IsWired net) (names : Names) (inside : ℕ → Boo
     good : j < length net.joints → inside (giver_side net j) ≡ true → (v : ValueAt j) × (v.0.value ≡ value)
 
   pick : (j : ℕ) → Pick j
-  pick j = elim (below_or j (length net.joints)) [
+  pick j = elim (cases_lt j (length net.joints)) [
     | inl lt ↦ elim (cases_Bool (inside (giver_side net j))) [
       | inl is ↦ record { value = (value_at j lt is).0.value; good = λ x y. (value_at j lt is, refl) }
       | inr off ↦ record { value = Jam; good = λ x y. cc (off, y) }

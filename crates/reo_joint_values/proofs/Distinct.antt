@@ -3,11 +3,10 @@ use Rattle.std.proofs.Common.{◌≡◌, ◌≢◌, inl, inr, ℕ, zero, suc, �
 use Rattle.std.specs.Prelude.{Contains}
 use Rattle.std.specs.List.{remove}
 use Rattle.std.proofs.Math.Seq.{get_or-append_seam}
-use Rattle.std.proofs.lemmas.Bool.{cases_eq}
+use Rattle.std.proofs.lemmas.Bool.{cases_eq, cases_lt}
 use Rattle.std.proofs.lemmas.List.{get_or_default, get_or_append_left}
 use Rattle.std.proofs.lemmas.List.Edits.{length-remove, get_or-remove_below, get_or-remove_above}
 use Rattle.reo_values.specs.declared.value.Value.{Value}
-use Rattle.reo_net_laws.proofs.Sides.{below_or}
 use Rattle.reo_joint_values.specs.Many.{AreDistinct}
 
 -- With an item that was not there, none stands twice.
@@ -30,7 +29,7 @@ still_there ys p p_in y zero q_in is apart =
     ]
 still_there ys p p_in y (suc q) q_in is apart =
     let count = length-remove ys p p_in in
-    elim (below_or (suc q) p) [
+    elim (cases_lt (suc q) p) [
       | inl lt ↦ (suc q, omega (arith, count, lt), get_or-remove_below ys p y (suc q) lt p_in ∙ is)
       | inr le ↦ elim (cases_eq p (suc q)) [
         | inl same ↦ absurd (apart (ap (λ (k : ℕ). get_or ys k y) same ∙ is))

@@ -13,7 +13,7 @@ use Rattle.reo_net_base.specs.Colouring.{taken_at}
 use Rattle.reo_net_base.specs.Wired.{IsWired, IsEnd}
 use Rattle.reo_net_laws.specs.Ends.{mark_in, from_in, IsRowOf}
 use Rattle.reo_net_laws.proofs.Joined.{ends_joined, source_taken}
-use Rattle.reo_net_laws.proofs.Sides.{side_at_is}
+use Rattle.reo_joint_values.proofs.Sides.{side_at_is}
 use Rattle.reo_net_laws.proofs.Items.{taken_one}
 use Rattle.reo_joint_values.specs.declared.value.JointValue.{JointValue}
 use Rattle.reo_joint_values.specs.Values.{Names, Choice, item_named, items_of, no_joint, joint_of, giver_side, taker_side, AtSide}

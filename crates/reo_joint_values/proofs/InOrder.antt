@@ -3,7 +3,7 @@ use Rattle.std.proofs.Common.{◌≡◌, ℕ, ◌<◌, List, length, get_or, ap,
 use Rattle.reo_net_base.specs.Net.{Net, side_at}
 use Rattle.reo_net_base.specs.Ends.{IsGiver}
 use Rattle.reo_net_base.specs.Wired.{IsWired, IsOrder}
-use Rattle.reo_net_laws.proofs.Sides.{same_side_at}
+use Rattle.reo_joint_values.proofs.Sides.{same_side_at}
 use Rattle.reo_net_laws.proofs.Orders.{place_in, fed_before}
 use Rattle.reo_joint_values.specs.Standing.{no_joint, giver_of, taker_of, Brings}
 use Rattle.reo_joint_values.specs.InOrder.{AreInOrder}

@@ -4,7 +4,7 @@ use Rattle.reo_net_base.specs.Net.{Net}
 use Rattle.reo_net_base.specs.Sides.{side_count}
 use Rattle.reo_net_base.specs.Wired.{IsWired}
 use Rattle.reo_net_laws.specs.Parts.{IsClosed}
-use Rattle.reo_net_laws.proofs.Sides.{side_in_range}
+use Rattle.reo_joint_values.proofs.Sides.{side_in_range}
 use Rattle.reo_joint_values.specs.Values.{no_joint, joint_of, AtSide}
 
 -- In a closed set each side of a joint is inside where one is.

@@ -10,3 +10,4 @@ pub mod Narrowing
 pub mod Sources
 pub mod StandLemmas
 pub mod Works
+pub mod Sides

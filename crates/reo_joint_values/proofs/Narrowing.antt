@@ -1,7 +1,6 @@
 -- What narrowing keeps.
 use Rattle.std.proofs.Common.{◌≡◌, ◌⊎◌, inl, inr, ◌↔◌, ℕ, ◌<◌, Bool, true, length, refl, ap, sym, ◌∙◌, subst}
-use Rattle.std.proofs.lemmas.Bool.{cases_eq}
-use Rattle.reo_values.proofs.Naturals.{eq_same, same_eq}
+use Rattle.std.proofs.lemmas.Bool.{cases_eq, eqb-true, eq-eqb}
 use Rattle.reo_net_base.specs.Net.{Net}
 use Rattle.reo_net_base.specs.Wired.{IsWired}
 use Rattle.reo_joint_values.specs.declared.value.JointValue.{JointValue}
@@ -14,14 +13,14 @@ use Rattle.reo_joint_values.specs.Works.{RowWorks}
 use Rattle.reo_joint_values.proofs.Works.{fits_works, works_possible}
 
 pub value_same : (v : JointValue) → value_eq v v ≡ true
-value_same (Flow n) = same_eq n n refl
+value_same (Flow n) = eq-eqb n n refl
 value_same RG = refl
 value_same GR = refl
 value_same GG = refl
 value_same Jam = refl
 
 pub same_value : (v w : JointValue) → value_eq v w ≡ true → v ≡ w
-same_value (Flow m) (Flow n) h = ap Flow (eq_same m n h)
+same_value (Flow m) (Flow n) h = ap Flow (eqb-true m n h)
 same_value RG RG h = refl
 same_value GR GR h = refl
 same_value GG GG h = refl

@@ -18,7 +18,7 @@ use Rattle.reo_net_laws.specs.Ends.{mark_in, from_in, IsSource}
 use Rattle.reo_net_laws.specs.Parts.{IsClosed, IsAssignment, is_joint_inside}
 use Rattle.reo_net_laws.proofs.Items.{end_is, along_order}
 use Rattle.reo_net_laws.proofs.Joined.{source_taken}
-use Rattle.reo_net_laws.proofs.Sides.{row_is, side_in_range, row_in_table, gives_at}
+use Rattle.reo_joint_values.proofs.Sides.{row_is, side_in_range, row_in_table, gives_at}
 use Rattle.reo_joint_values.specs.Standing.{no_joint, giver_of, taker_of, given_in, passes_in, FlowsAt, CanStand}
 use Rattle.reo_joint_values.specs.Standing.CanStand.{alone, passed}
 use Rattle.reo_joint_values.specs.StandingLaws.{PossibleItemsAreClosed, PossibleItemsAreLeast, ItemsCanStand}

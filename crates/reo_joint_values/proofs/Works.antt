@@ -1,13 +1,11 @@
 -- A row works, joint by joint, exactly where it fits values of the family, and a value is used exactly where some row works and the value goes with it.
 use Rattle.std.proofs.Common.{◌≡◌, ◌≢◌, inl, inr, ℕ, ◌<◌, true, cond, length, Option, None, refl, ap, sym, ◌∙◌, subst, arith}
 use Rattle.std.specs.Bool.{◌==◌}
-use Rattle.std.proofs.lemmas.Bool.{cases_eq, cond-true, cond-false}
+use Rattle.std.proofs.lemmas.Bool.{cases_eq, cond-true, cond-false, eq-eqb, ne_eqb, cases_lt}
 use Rattle.reo_values.specs.declared.value.Value.{Value}
-use Rattle.reo_values.proofs.Naturals.{same_eq, other_eq}
 use Rattle.reo_net_base.specs.Net.{Net}
 use Rattle.reo_net_base.specs.Wired.{IsWired}
 use Rattle.reo_net_laws.specs.Ends.{IsRowOf}
-use Rattle.reo_net_laws.proofs.Sides.{below_or}
 use Rattle.reo_joint_values.specs.declared.value.JointValue.{JointValue}
 use Rattle.reo_joint_values.specs.declared.value.JointValue.TheVariants.{Jam}
 use Rattle.reo_joint_values.specs.Values.{Names, Choice, Family, item_named, no_joint, joint_of, giver_side, taker_side, AtSide}
@@ -22,10 +20,10 @@ abbrev with_value : ℕ → JointValue → Choice → Choice
 with_value j v c k = cond (k == j) v (c k)
 
 with_same : (j : ℕ) (v : JointValue) (c : Choice) (k : ℕ) → k ≡ j → with_value j v c k ≡ v
-with_same j v c k e = cond-true (k == j) v (c k) (same_eq k j e)
+with_same j v c k e = cond-true (k == j) v (c k) (eq-eqb k j e)
 
 with_other : (j : ℕ) (v : JointValue) (c : Choice) (k : ℕ) → k ≢ j → with_value j v c k ≡ c k
-with_other j v c k other = cond-false (k == j) v (c k) (other_eq k j other)
+with_other j v c k other = cond-false (k == j) v (c k) (ne_eqb k j other)
 
 -- A row with values of a family.
 pub record Possible (net : Net) (names : Names) (family : Family) (side row : ℕ) : Type 0 where
@@ -109,13 +107,13 @@ module _ (net : Net) (wired : IsWired net) (names : Names) (family : Family) (si
 
     pub together_taken : (k : ℕ) → taker_side net k ≡ side → together k ≡ taken k
     unfolding together
-    together_taken k at = cond-true (taker_side net k == side) (taken k) (given k) (same_eq (taker_side net k) side at)
+    together_taken k at = cond-true (taker_side net k == side) (taken k) (given k) (eq-eqb (taker_side net k) side at)
 
     pub together_given : (k : ℕ) → k < length net.joints → giver_side net k ≡ side → together k ≡ given k
     unfolding together
     together_given k lt at =
         cond-false (taker_side net k == side) (taken k) (given k)
-        (other_eq (taker_side net k) side (λ e. wired.apart k no_joint lt (at ∙ sym e)))
+        (ne_eqb (taker_side net k) side (λ e. wired.apart k no_joint lt (at ∙ sym e)))
 
     fits_given : (k : ℕ) → k < length net.joints → giver_side net k ≡ side → GivesValue net names together row (joint_of net k).giver k (given k)
     fits_given k lt at = elim (decided net wired side row k lt at in_table) [
@@ -147,7 +145,7 @@ module _ (net : Net) (wired : IsWired net) (names : Names) (family : Family) (si
       good : j < length net.joints → taker_side net j ≡ side → TakerWorks net names family side row j value
 
     some_taken : (j : ℕ) → Taken j
-    some_taken j = elim (below_or j (length net.joints)) [
+    some_taken j = elim (cases_lt j (length net.joints)) [
       | inl lt ↦ elim (cases_eq (taker_side net j) side) [
         | inl at ↦ let t = (works.joints j lt).taker at in record { value = t.value; good = λ x y. t.works }
         | inr off ↦ record { value = Jam; good = λ x y. absurd (off y) }
@@ -168,7 +166,7 @@ module _ (net : Net) (wired : IsWired net) (names : Names) (family : Family) (si
         good : k < length net.joints → giver_side net k ≡ side → Given net names family row with k value
 
       some_given : (k : ℕ) → Answer k
-      some_given k = elim (below_or k (length net.joints)) [
+      some_given k = elim (cases_lt k (length net.joints)) [
         | inl lt ↦ elim (cases_eq (giver_side net k) side) [
           | inl at ↦ given_at k lt at
           | inr off ↦ record { value = Jam; good = λ x y. absurd (off y) }

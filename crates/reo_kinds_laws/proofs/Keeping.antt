@@ -1,10 +1,10 @@
 -- What a round leaves of what is kept.
 use Rattle.std.proofs.Common.{◌≡◌, ◌++◌, ◌&&◌, ℕ, zero, suc, ◌-◌, Bool, true, false, not, cond, List, [], ◌∷◌, nat_lt, Option, Some, None, is_some, slice_get, refl, sym, ap, arith, append-nil}
+use Rattle.std.proofs.lemmas.Bool.{not-true}
 use Rattle.std.specs.Prelude.{option_to_list}
 use Rattle.std.proofs.lemmas.Bool.Decides.{nat_tests}
 use Rattle.std.proofs.lemmas.List.{length-append}
 use Rattle.reo_values.specs.declared.value.Value.{Value}
-use Rattle.reo_values.proofs.Truths.{not_true}
 use Rattle.reo_net_base.specs.Marks.{is_flow}
 use Rattle.reo_net_base.specs.Rows.{mark_in}
 use Rattle.reo_net_base.specs.Tables.{rows_of}
@@ -109,7 +109,7 @@ shift size (front ∷ items) false (Some item) false is some b = rw is record {
 pub buffers_kept : BuffersKeepOrder
 buffers_kept buffer rows item b =
     let kept = put buffer.size buffer.items (flows_at (Store buffer) rows 1) (came_in (Store buffer) rows item)
-    (λ came. not_true _ (came_while _ _ item (can_flow (not (is_full buffer)) rows.first) came)) (can_flow (is_some (front_of buffer)) rows.second) b in
+    (λ came. not-true _ (came_while _ _ item (can_flow (not (is_full buffer)) rows.first) came)) (can_flow (is_some (front_of buffer)) rows.second) b in
     record { later = _; is_left = refl; size_stays = kept.size_stays; in_order = kept.in_order; is_buffer = kept.is_buffer }
 
 pub shifts_kept : ShiftsLoseFronts

@@ -8,7 +8,7 @@ use Rattle.reo_grammar.specs.declared.kind.TokenKind.{TokenKind}
 use Rattle.reo_grammar.specs.declared.kind.TokenKind.TheVariants as kinds
 use Rattle.reo_grammar.specs.Bytes.{is_unescaped, is_escaped, one_of}
 use Rattle.reo_grammar.specs.Spelling.{spells, is_short, is_closed, reserved, signs}
-use Rattle.reo_grammar.proofs.Sound.{and-both, or-left}
+use Rattle.std.proofs.lemmas.Bool.{and_from, or_left}
 use Rattle.reo_lexer.specs.Gaps.{is_space}
 use Rattle.reo_lexer.specs.Lexing.{IsToken}
 use Rattle.reo_lexer.specs.Faults.{stops, is_break, is_wrong, BeginsNone, HasWrong, IsOpen, IsLong}
@@ -35,13 +35,13 @@ name-kind : (k : TokenKind) (left : List ℕ) (n : ℕ) → is_letter (get_or le
     → ((b : ℕ) (bs : List ℕ) → is_name (b ∷ bs) ≡ true → take n left ≡ b ∷ bs → (spells k (b ∷ bs) ≡ true) × (is_short k (b ∷ bs) ≡ true)) → IsFront k n left
 name-kind k [] n l e f = absurd (cc)
 name-kind k (b ∷ r) n l e f =
-    let i : is_name_byte b ≡ true = or-left (is_letter b) (is_digit b) l in
+    let i : is_name_byte b ≡ true = or_left (is_letter b) (is_digit b) l in
     let c : take_while is_name_byte (b ∷ r) ≡ b ∷ take_while is_name_byte r = run-cons is_name_byte b r i in
     let (w, a, h) = run-past is_name_byte r in
     let v : b ∷ r ≡ (b ∷ take_while is_name_byte r) ++ past is_name_byte r = ap (λ l. b ∷ l) w in
     let m : n ≡ length (b ∷ take_while is_name_byte r) = e ∙ ap length c in
     let t : take n (b ∷ r) ≡ b ∷ take_while is_name_byte r = take-cut (b ∷ r) (b ∷ take_while is_name_byte r) (past is_name_byte r) n v m in
-    let s = f b (take_while is_name_byte r) (and-both (is_letter b) (list_all is_name_byte (take_while is_name_byte r)) l a) t in
+    let s = f b (take_while is_name_byte r) (and_from (is_letter b) (list_all is_name_byte (take_while is_name_byte r)) l a) t in
     front-of k (b ∷ r) (b ∷ take_while is_name_byte r) (past is_name_byte r) n v m
     (record { spelled = s.0; short = s.1; longest = name-longest b (take_while is_name_byte r) (past is_name_byte r) l h })
 
@@ -51,7 +51,7 @@ word_front left n l e h = name-kind kinds.Word left n l e (λ b bs s t. (rw t at
 
 pub name_front : (left : List ℕ) (n : ℕ) → is_letter (get_or left 0 0) ≡ true → n ≡ length (take_while is_name_byte left) → one_of (take n left) reserved ≡ false → IsFront kinds.Name n left
 name_front left n l e h = name-kind kinds.Name left n l e
-    (λ b bs s t. (and-both (is_name (b ∷ bs)) (not (one_of (b ∷ bs) reserved)) s (yes-not (one_of (b ∷ bs) reserved) (rw t at h)), refl))
+    (λ b bs s t. (and_from (is_name (b ∷ bs)) (not (one_of (b ∷ bs) reserved)) s (yes-not (one_of (b ∷ bs) reserved) (rw t at h)), refl))
 
 -- Digits in front are a number where they are at most 18, and a fault otherwise.
 pub number-front : (left : List ℕ) (n : ℕ) → is_digit (get_or left 0 0) ≡ true → n ≡ length (take_while is_digit left) → n ≤ 18 → IsFront kinds.Number n left
@@ -62,7 +62,7 @@ number-front (b ∷ r) n l e f =
     let v : b ∷ r ≡ (b ∷ take_while is_digit r) ++ past is_digit r = ap (λ l. b ∷ l) w in
     let m : n ≡ length (b ∷ take_while is_digit r) = e ∙ ap length c in
     front-of kinds.Number (b ∷ r) (b ∷ take_while is_digit r) (past is_digit r) n v m
-    (record { spelled = and-both (is_digit b) (list_all is_digit (take_while is_digit r)) l a; short = few (length (b ∷ take_while is_digit r)) (omega arith); longest = number-longest b (take_while is_digit r) (past is_digit r) l h })
+    (record { spelled = and_from (is_digit b) (list_all is_digit (take_while is_digit r)) l a; short = few (length (b ∷ take_while is_digit r)) (omega arith); longest = number-longest b (take_while is_digit r) (past is_digit r) l h })
   where
     few : (n : ℕ) → n ≤ 18 → nat_le n 18 ≡ true
     few n h = grind (arith, nat_tests)
@@ -73,7 +73,7 @@ number-long (b ∷ r) n l e f =
     let c : take_while is_digit (b ∷ r) ≡ b ∷ take_while is_digit r = run-cons is_digit b r l in
     let (w, a, h) = run-past is_digit r in
     let m : n ≡ length (b ∷ take_while is_digit r) = e ∙ ap length c in
-    (b ∷ take_while is_digit r, past is_digit r, ap (λ l. b ∷ l) w, and-both (is_digit b) (list_all is_digit (take_while is_digit r)) l a, h, omega arith)
+    (b ∷ take_while is_digit r, past is_digit r, ap (λ l. b ∷ l) w, and_from (is_digit b) (list_all is_digit (take_while is_digit r)) l a, h, omega arith)
 
 -- A sign in front, or a byte that begins nothing.
 pub sign-front : (left : List ℕ) (n : ℕ) → n ≡ sign_size left → 0 < n → IsFront kinds.Sign n left
@@ -120,7 +120,7 @@ text-wrong r e m i h b q =
     (e, body, get_or r m 0, drop (suc m) r, ap (λ l. 34 ∷ l) (w ∙ ap (λ l. body ++ l) c), g, wrong e (get_or r m 0) (rw c at x) b q)
   where
     wrong : (e : Bool) (x : ℕ) → not (is_more e x) ≡ true → is_break x ≡ false → (e ≡ false → (x == 34) ≡ false) → is_wrong e x ≡ true
-    wrong true x h b q = and-both (not (is_escaped x)) (not (is_break x)) h (yes-not (is_break x) b)
+    wrong true x h b q = and_from (not (is_escaped x)) (not (is_break x)) h (yes-not (is_break x) b)
     wrong false x h b q = by (is_unescaped x) (x == 92) (x == 34) (is_break x) h b (q refl)
       where
         by : (p y z k : Bool) → not (y || p) ≡ true → k ≡ false → z ≡ false → ((not p && not (z || y)) && not k) ≡ true

@@ -3,7 +3,7 @@ use Rattle.std.proofs.Common.{◌≡◌, ℕ, Bool, true, false, cond, List, [],
 use Rattle.std.proofs.Math.Seq.{take-append_seam}
 use Rattle.std.specs.List.{list_all, take_while}
 use Rattle.std.proofs.lemmas.List.Sums.{take_while-cons}
-use Rattle.reo_grammar.proofs.Sound.{and-both}
+use Rattle.std.proofs.lemmas.Bool.{and_from}
 use Rattle.reo_lexer.specs.Faults.{ends}
 
 drop-seam : (a b : List ℕ) → drop (length a) (a ++ b) ≡ b
@@ -47,5 +47,5 @@ run-past p (b ∷ bs) = rw take_while-cons (by (p b) refl (run-past p bs))
   where
     by : (x : Bool) → p b ≡ x → (bs ≡ take_while p bs ++ past p bs) × (list_all p (take_while p bs) ≡ true) × (ends p (past p bs) ≡ true)
         → (b ∷ bs ≡ cond x (b ∷ take_while p bs) [] ++ cond x (past p bs) (b ∷ bs)) × (list_all p (cond x (b ∷ take_while p bs) []) ≡ true) × (ends p (cond x (past p bs) (b ∷ bs)) ≡ true)
-    by true e (w, i, j) = (ap (λ l. b ∷ l) w, and-both (p b) (list_all p (take_while p bs)) e i, j)
+    by true e (w, i, j) = (ap (λ l. b ∷ l) w, and_from (p b) (list_all p (take_while p bs)) e i, j)
     by false e h = (refl, refl, rw e refl)

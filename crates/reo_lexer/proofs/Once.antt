@@ -1,11 +1,11 @@
 -- A text has one list of tokens or one fault.
 use Rattle.std.proofs.Common.{◌≡◌, ℕ, ◌+◌, ◌≤◌, ◌<◌, Bool, true, false, ◌&&◌, ◌||◌, not, List, [], ◌∷◌, ◌++◌, length, ◌⊎◌, inl, inr, refl, sym, ◌∙◌, ap, subst, arith, append_assoc, append-nil, ◌==◌, nat_le}
+use Rattle.std.proofs.lemmas.Bool.{and_parts, both_ways, not-true}
 use Rattle.std.specs.List.{list_all}
 use Rattle.std.proofs.lemmas.Bool.Decides.{nat_tests}
 use Rattle.reo_grammar.specs.declared.kind.TokenKind.{TokenKind}
 use Rattle.reo_grammar.specs.declared.kind.TokenKind.TheVariants as kinds
 use Rattle.reo_values.specs.Names.{is_digit}
-use Rattle.reo_values.proofs.Truths.{and_left, and_right, no_both}
 use Rattle.reo_grammar.specs.Spelling.{spells, is_short, is_digits, is_closed}
 use Rattle.reo_lexer.specs.declared.token.Token.{Token}
 use Rattle.reo_lexer.specs.declared.token.LexFault.{LexFault}
@@ -16,14 +16,14 @@ use Rattle.reo_lexer.specs.Faults.{stops, is_break, is_wrong, BeginsNone, HasWro
 use Rattle.reo_lexer.specs.Skipping.{behind, Inside, inside}
 use Rattle.reo_lexer.proofs.Skipped.{gap-skipped, end-behind, behind-here}
 use Rattle.reo_lexer.proofs.Quotes.{goes-inside, closed-goes, wrong-halts, stops-halts}
-use Rattle.reo_lexer.proofs.Spelled.{one-kind, no-empty, by-digit, by-quote, no_gap_head, token-head, digit-head, not-yes, each-next, ends-no}
+use Rattle.reo_lexer.proofs.Spelled.{one-kind, no-empty, by-digit, by-quote, no_gap_head, token-head, digit-head, each-next, ends-no}
 use Rattle.reo_lexer.proofs.Fronts.{cancel, fronts}
 
 -- What begins no gap is what stands behind the gap before it.
 behind-head : (left : List ℕ) → no_gap_head left ≡ true → behind false left ≡ left
 behind-head [] h = absurd (cc)
 behind-head (b ∷ r) h =
-    behind-here b r (not-yes (is_space b) (and_left (not (is_space b)) (not (b == 35)) h)) (not-yes (b == 35) (and_right (not (is_space b)) (not (b == 35)) h))
+    behind-here b r (not-true (is_space b) ((and_parts (not (is_space b)) (not (b == 35)) h).0)) (not-true (b == 35) ((and_parts (not (is_space b)) (not (b == 35)) h).1))
 
 head-append : (a b : List ℕ) → no_gap_head a ≡ true → no_gap_head (a ++ b) ≡ true
 head-append [] b h = absurd (cc)
@@ -85,7 +85,7 @@ none-head left (b, r, w, h, n) = rw w (by (is_space b) (b == 35) (b == 34) h)
 
 long-head : (left : List ℕ) → IsLong left → (b : ℕ) × (r : List ℕ) × (left ≡ b ∷ r) × (is_digit b ≡ true)
 long-head left ([], r, w, d, e, n) = absurd (cc)
-long-head left (b ∷ ds, r, w, d, e, n) = (b, ds ++ r, w, and_left (is_digit b) (list_all is_digit ds) d)
+long-head left (b ∷ ds, r, w, d, e, n) = (b, ds ++ r, w, (and_parts (is_digit b) (list_all is_digit ds) d).0)
 
 pub fault-head : (f : LexFault) (line : ℕ) (left : List ℕ) → BeginsFault f line left → no_gap_head left ≡ true
 fault-head (faults.BadByte l) line left (e, inl n) = none-head left n
@@ -139,7 +139,7 @@ token-long k [] after t h = no-empty k t.spelled
 token-long k (b ∷ bs) after t ([], r, w, d, e, n) = absurd (cc)
 token-long k (b ∷ bs) after t (x ∷ ds, r, w, d, e, n) =
     let q : b ≡ x = cc in
-    let i : is_digit b ≡ true = rw q (and_left (is_digit x) (list_all is_digit ds) d) in
+    let i : is_digit b ≡ true = rw q ((and_parts (is_digit x) (list_all is_digit ds) d).0) in
     let j : is_digits (b ∷ bs) ≡ true = by-digit k b bs i t.spelled in
     elim (fronts (b ∷ bs) after (x ∷ ds) r w) [
       | inl (m, u, v) ↦
@@ -153,8 +153,8 @@ token-long k (b ∷ bs) after t (x ∷ ds, r, w, d, e, n) =
     over [] u v j = let y : x ∷ ds ≡ b ∷ bs = sym (u ∙ append-nil (x ∷ ds)) in few-digits k (b ∷ bs) t.spelled t.short j (let L : List ℕ → Type 0 = λ l. 18 < length l in subst L y n)
     over (c ∷ m) u v j =
         let bs_is : bs ≡ ds ++ (c ∷ m) = cc in
-        let all : list_all is_digit bs ≡ true = and_right (is_digit b) (list_all is_digit bs) j in
-        no_both (is_digit c) (each-next is_digit ds m c (rw bs_is at all)) (ends-no is_digit r m after c e v)
+        let all : list_all is_digit bs ≡ true = (and_parts (is_digit b) (list_all is_digit bs) j).1 in
+        both_ways (is_digit c) (ends-no is_digit r m after c e v) (each-next is_digit ds m c (rw bs_is at all))
 
 pub token-fault : (k : TokenKind) (bytes after : List ℕ) (f : LexFault) (line : ℕ) → IsToken k bytes after → BeginsFault f line (bytes ++ after) → ⊥
 token-fault k bytes after (faults.BadByte l) line t (e, inl (b, r, w, h, n)) = n k bytes after refl t.spelled
@@ -173,11 +173,11 @@ wrong-open left (to, body, b, r, w, g, i) (so, bo, s, v, h, j) =
     let z : inside false (bo ++ s) ≡ record { escape = so; left = s } = goes-inside false so bo s h (stops-halts so s j) in
     let u : record { escape = to; left = b ∷ r } ≡ record { escape = so; left = s } = sym y ∙ (rw x z) in
     let t : b ∷ r ≡ s = ap (λ (p : Inside). p.left) u in
-    no_both (is_break b) (rw (← t) at j) (no-break to b i)
+    both_ways (is_break b) (no-break to b i) (rw (← t) at j)
   where
     no-break : (e : Bool) (b : ℕ) → is_wrong e b ≡ true → is_break b ≡ false
-    no-break true b h = not-yes (is_break b) (and_right _ _ h)
-    no-break false b h = not-yes (is_break b) (and_right _ _ h)
+    no-break true b h = not-true (is_break b) ((and_parts _ _ h).1)
+    no-break false b h = not-true (is_break b) ((and_parts _ _ h).1)
 
 quote-long : (left r : List ℕ) → left ≡ 34 ∷ r → IsLong left → ⊥
 quote-long left r w h = let (b, s, v, d) = long-head left h in let e : b ≡ 34 = cc in let k : is_digit 34 ≡ true = rw e at d in cc

@@ -1,6 +1,6 @@
 -- Tokens of a front of a text, and texts that go on.
 use Rattle.std.proofs.Common.{◌≡◌, ℕ, zero, suc, ◌+◌, ◌≤◌, true, List, [], ◌∷◌, ◌++◌, length, take, drop, refl, sym, ◌∙◌, ap, subst, arith, append_assoc, append-nil, length-append, zero-add}
-use Rattle.reo_values.proofs.Truths.{and_left, and_right}
+use Rattle.std.proofs.lemmas.Bool.{and_parts}
 use Rattle.reo_grammar.specs.Spelling.{spells, is_short}
 use Rattle.reo_grammar.specs.Tokens.{Lexeme, AreReal, Alike}
 use Rattle.reo_lexer.specs.declared.token.Token.{Token}
@@ -58,8 +58,8 @@ pub written-runs : (text : List ℕ) (at line : ℕ) (left : List ℕ) (c : List
     → (us : List Token) × Runs AtEnd at line (left ++ written c) us × Alike c (lexemes_of text us)
 written-runs text at line left [] h e a r = ([], rw append-nil a, tt)
 written-runs text at line left (t ∷ c) h e a (x, r) =
-    let s : spells t.kind t.bytes ≡ true = and_left (spells t.kind t.bytes) (is_short t.kind t.bytes) x in
-    let q : is_short t.kind t.bytes ≡ true = and_right (spells t.kind t.bytes) (is_short t.kind t.bytes) x in
+    let s : spells t.kind t.bytes ≡ true = (and_parts (spells t.kind t.bytes) (is_short t.kind t.bytes) x).0 in
+    let q : is_short t.kind t.bytes ≡ true = (and_parts (spells t.kind t.bytes) (is_short t.kind t.bytes) x).1 in
     let u : Token = record { kind = t.kind; start = at + length (left ++ 10 ∷ []); end = at + length (left ++ 10 ∷ []) + length t.bytes; line = line + lines_in (left ++ 10 ∷ []) } in
     let w : left ++ (10 ∷ (t.bytes ++ written c)) ≡ (left ++ 10 ∷ []) ++ (t.bytes ++ written c) = sym (append_assoc left (10 ∷ []) (t.bytes ++ written c)) in
     let l : Leads at line (left ++ (10 ∷ (t.bytes ++ written c))) u (written c) =

@@ -1,10 +1,9 @@
 -- Texts in quotes: where their insides end.
 use Rattle.std.proofs.Common.{◌≡◌, ℕ, Bool, true, false, ◌&&◌, ◌||◌, not, cond, List, [], ◌∷◌, ◌++◌, refl, sym, ◌∙◌, ap, append_assoc, arith, ◌==◌, nat_le}
+use Rattle.std.proofs.lemmas.Bool.{and_parts, not-true, and_from}
 use Rattle.std.proofs.lemmas.Bool.Decides.{nat_tests}
-use Rattle.reo_values.proofs.Truths.{and_left, and_right, not_true}
 use Rattle.reo_grammar.specs.Bytes.{is_unescaped, is_escaped, is_empty}
 use Rattle.reo_grammar.specs.Spelling.{is_closed}
-use Rattle.reo_grammar.proofs.Sound.{and-both}
 use Rattle.reo_lexer.specs.Faults.{is_body, stops, is_break, is_wrong}
 use Rattle.reo_lexer.specs.Skipping.{Inside, inside}
 
@@ -40,7 +39,7 @@ no-more true y h k = absurd (cc)
 no-more false true h k = absurd (cc)
 
 further_true : (b : ℕ) (bs : List ℕ) (i : Inside) → is_escaped b ≡ true → Goes false bs i → Goes true (b ∷ bs) i
-further_true b bs i h (body, w, g, k) = (b ∷ body, ap (λ l. b ∷ l) w, and-both (is_escaped b) (is_body false body i.escape) h g, k)
+further_true b bs i h (body, w, g, k) = (b ∷ body, ap (λ l. b ∷ l) w, and_from (is_escaped b) (is_body false body i.escape) h g, k)
 
 further_escape : (b : ℕ) (bs : List ℕ) (i : Inside) → (b == 92) ≡ true → Goes true bs i → Goes false (b ∷ bs) i
 further_escape b bs i h (body, w, g, k) = (b ∷ body, ap (λ l. b ∷ l) w, rw h g, k)
@@ -71,16 +70,16 @@ goes-inside true true [] [] g h = refl
 goes-inside false false [] [] g h = refl
 goes-inside true false [] left g h = absurd (cc)
 goes-inside false true [] left g h = absurd (cc)
-goes-inside true true [] (b ∷ r) g h = let n : is_escaped b ≡ false = not_true (is_escaped b) h in rw n refl
-goes-inside false false [] (b ∷ r) g h = none (b == 92) (is_unescaped b) (not_true (b == 92 || is_unescaped b) h)
+goes-inside true true [] (b ∷ r) g h = let n : is_escaped b ≡ false = not-true (is_escaped b) h in rw n refl
+goes-inside false false [] (b ∷ r) g h = none (b == 92) (is_unescaped b) (not-true (b == 92 || is_unescaped b) h)
   where
     none : (x y : Bool) → (x || y) ≡ false → cond x (inside true r) (cond y (inside false r) (record { escape = false; left = b ∷ r })) ≡ record { escape = false; left = b ∷ r }
     none true y n = absurd (cc)
     none false true n = absurd (cc)
     none false false n = refl
 goes-inside true to (b ∷ body) left g h =
-    let p : is_escaped b ≡ true = and_left (is_escaped b) (is_body false body to) g in
-    rw p (goes-inside false to body left (and_right (is_escaped b) (is_body false body to) g) h)
+    let p : is_escaped b ≡ true = (and_parts (is_escaped b) (is_body false body to) g).0 in
+    rw p (goes-inside false to body left ((and_parts (is_escaped b) (is_body false body to) g).1) h)
 goes-inside false to (b ∷ body) left g h = by (b == 92) (is_unescaped b) g
     (λ k. goes-inside true to body left k h) (λ k. goes-inside false to body left k h)
   where
@@ -99,13 +98,13 @@ goes-closed false false [] rest g = refl
 goes-closed true false [] rest g = absurd (cc)
 goes-closed false true [] rest g = absurd (cc)
 goes-closed true to (b ∷ body) rest g =
-    let p : is_escaped b ≡ true = and_left (is_escaped b) (is_body false body to) g in
-    rw p (goes-closed false to body rest (and_right (is_escaped b) (is_body false body to) g))
+    let p : is_escaped b ≡ true = (and_parts (is_escaped b) (is_body false body to) g).0 in
+    rw p (goes-closed false to body rest ((and_parts (is_escaped b) (is_body false body to) g).1))
 goes-closed false to (b ∷ body) rest g = by (b == 92) (is_unescaped b) refl refl g
     (λ k. goes-closed true to body rest k) (λ k. goes-closed false to body rest k)
   where
     unescaped-no-quote : is_unescaped b ≡ true → (b == 34) ≡ false
-    unescaped-no-quote h = not_true (b == 34) (and_left (not (b == 34)) (not (b == 92)) (and_right (nat_le 32 b && nat_le b 126) (not (b == 34) && not (b == 92)) h))
+    unescaped-no-quote h = not-true (b == 34) ((and_parts (not (b == 34)) (not (b == 92)) ((and_parts (nat_le 32 b && nat_le b 126) (not (b == 34) && not (b == 92)) h).1)).0)
 
     escape-no-quote : (b == 92) ≡ true → (b == 34) ≡ false
     escape-no-quote h = let n : b ≡ 92 = grind (arith, nat_tests) in rw n refl
@@ -127,8 +126,8 @@ pub closed-goes : (e : Bool) (bs : List ℕ) → is_closed e bs ≡ true → (bo
 closed-goes true [] h = absurd (cc)
 closed-goes false [] h = absurd (cc)
 closed-goes true (b ∷ bs) h =
-    let (body, w, g) = closed-goes false bs (and_right (is_escaped b) (is_closed false bs) h) in
-    (b ∷ body, ap (λ l. b ∷ l) w, and-both (is_escaped b) (is_body false body false) (and_left (is_escaped b) (is_closed false bs) h) g)
+    let (body, w, g) = closed-goes false bs ((and_parts (is_escaped b) (is_closed false bs) h).1) in
+    (b ∷ body, ap (λ l. b ∷ l) w, and_from (is_escaped b) (is_body false body false) ((and_parts (is_escaped b) (is_closed false bs) h).0) g)
 closed-goes false (b ∷ bs) h = by (b == 34) (b == 92) refl refl h (λ k. closed-goes true bs k) (λ k. closed-goes false bs k)
   where
     by : (x y : Bool) → (b == 34) ≡ x → (b == 92) ≡ y → cond x (is_empty bs) (cond y (is_closed true bs) (is_unescaped b && is_closed false bs)) ≡ true
@@ -138,8 +137,8 @@ closed-goes false (b ∷ bs) h = by (b == 34) (b == 92) refl refl h (λ k. close
     by true y q e k i j = let n : b ≡ 34 = grind (arith, nat_tests) in ([], rw (n, empty-is bs k) refl, refl)
     by false true q e k i j = let (body, w, g) = i k in (b ∷ body, ap (λ l. b ∷ l) w, escape-step (b == 92) (is_body true body false) (is_unescaped b && is_body false body false) e g)
     by false false q e k i j =
-        let (body, w, g) = j (and_right (is_unescaped b) (is_closed false bs) k) in
-        (b ∷ body, ap (λ l. b ∷ l) w, unescaped-step (b == 92) (is_unescaped b) (is_body false body false) (is_body true body false) e (and_left (is_unescaped b) (is_closed false bs) k) g)
+        let (body, w, g) = j ((and_parts (is_unescaped b) (is_closed false bs) k).1) in
+        (b ∷ body, ap (λ l. b ∷ l) w, unescaped-step (b == 92) (is_unescaped b) (is_body false body false) (is_body true body false) e ((and_parts (is_unescaped b) (is_closed false bs) k).0) g)
 
 -- No longer bytes are closed.
 pub closed-longest : (bs more : List ℕ) → is_closed false bs ≡ true → is_closed false (bs ++ more) ≡ true → more ≡ []
@@ -149,8 +148,8 @@ closed-longest bs more h k =
     empty-is more (sym (goes-closed false false body (34 ∷ more) g) ∙ (rw e at (rw w at k)))
 
 wrong-true : (e : Bool) (b : ℕ) → is_wrong e b ≡ true → not (is_more e b) ≡ true
-wrong-true true b h = and_left (not (is_escaped b)) (not (is_break b)) h
-wrong-true false b h = by (is_unescaped b) (b == 92) (b == 34) (and_left _ _ h)
+wrong-true true b h = (and_parts (not (is_escaped b)) (not (is_break b)) h).0
+wrong-true false b h = by (is_unescaped b) (b == 92) (b == 34) ((and_parts _ _ h).0)
   where
     by : (p x y : Bool) → (not p && not (y || x)) ≡ true → not (x || p) ≡ true
     by true x y k = absurd (cc)

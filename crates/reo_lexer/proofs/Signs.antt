@@ -1,15 +1,15 @@
 -- The longest sign in front.
 use Rattle.std.proofs.Common.{◌≡◌, ℕ, ◌≤◌, ◌<◌, Bool, true, false, ◌&&◌, not, cond, List, [], ◌∷◌, ◌++◌, length, take, drop, refl, arith, ◌==◌, nat_le}
+use Rattle.std.proofs.lemmas.Bool.{and_parts, both_ways, not-true}
 use Rattle.std.proofs.lemmas.Bool.Decides.{nat_tests}
 use Rattle.reo_values.specs.Names.{is_digit, is_letter}
-use Rattle.reo_values.proofs.Truths.{and_left, and_right, no_both}
 use Rattle.reo_grammar.specs.declared.kind.TokenKind.{TokenKind}
 use Rattle.reo_grammar.specs.declared.kind.TokenKind.TheVariants as kinds
 use Rattle.reo_grammar.specs.Bytes.{one_of}
 use Rattle.reo_grammar.specs.Spelling.{spells, signs}
 use Rattle.reo_lexer.specs.Lexing.{IsToken}
 use Rattle.reo_lexer.specs.Skipping.{sign_size}
-use Rattle.reo_lexer.proofs.Spelled.{sign-like, not-yes, by-other, no-empty, Longest}
+use Rattle.reo_lexer.proofs.Spelled.{sign-like, by-other, no-empty, Longest}
 
 -- The first byte of a sign is no letter, no digit and no quote, and there is at most one more.
 pub record Starts (a : ℕ) (x : List ℕ) : Type 0 where
@@ -21,13 +21,13 @@ pub record Starts (a : ℕ) (x : List ℕ) : Type 0 where
 pub sign-starts : (a : ℕ) (x : List ℕ) → one_of (a ∷ x) signs ≡ true → Starts a x
 sign-starts a x h =
     let l = sign-like (a ∷ x) h in
-    let s = and_left (not (is_letter a) && (not (is_digit a) && not (a == 34))) (nat_le (length x) 1) l in
-    let t = and_right (not (is_letter a)) (not (is_digit a) && not (a == 34)) s in
-    let n : nat_le (length x) 1 ≡ true = and_right (not (is_letter a) && (not (is_digit a) && not (a == 34))) (nat_le (length x) 1) l in
+    let s = (and_parts (not (is_letter a) && (not (is_digit a) && not (a == 34))) (nat_le (length x) 1) l).0 in
+    let t = (and_parts (not (is_letter a)) (not (is_digit a) && not (a == 34)) s).1 in
+    let n : nat_le (length x) 1 ≡ true = (and_parts (not (is_letter a) && (not (is_digit a) && not (a == 34))) (nat_le (length x) 1) l).1 in
     record {
-      no_letter = not-yes (is_letter a) (and_left (not (is_letter a)) (not (is_digit a) && not (a == 34)) s);
-      no_digit = not-yes (is_digit a) (and_left (not (is_digit a)) (not (a == 34)) t);
-      no_quote = not-yes (a == 34) (and_right (not (is_digit a)) (not (a == 34)) t);
+      no_letter = not-true (is_letter a) ((and_parts (not (is_letter a)) (not (is_digit a) && not (a == 34)) s).0);
+      no_digit = not-true (is_digit a) ((and_parts (not (is_digit a)) (not (a == 34)) t).0);
+      no_quote = not-true (a == 34) ((and_parts (not (is_digit a)) (not (a == 34)) t).1);
       few = few-of (length x) n;
     }
   where
@@ -47,7 +47,7 @@ pub one-longest : (a b : ℕ) (rest : List ℕ) → one_of (a ∷ []) signs ≡ 
 one-longest a b rest h n k [] after w s = refl
 one-longest a b rest h n k (c ∷ []) after w s =
     let f = sign-starts a [] h in let e : b ≡ c = cc in
-    absurd (no_both (one_of (a ∷ c ∷ []) signs) (by-other k a (c ∷ []) f.no_letter f.no_digit f.no_quote s) (rw e at n))
+    absurd (both_ways (one_of (a ∷ c ∷ []) signs) (rw e at n) (by-other k a (c ∷ []) f.no_letter f.no_digit f.no_quote s))
 one-longest a b rest h n k (c ∷ d ∷ m) after w s =
     let f = sign-starts a [] h in absurd (too-long a c d m (by-other k a (c ∷ d ∷ m) f.no_letter f.no_digit f.no_quote s))
 

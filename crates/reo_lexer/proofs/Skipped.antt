@@ -1,9 +1,8 @@
 -- Gaps: what stands behind one.
 use Rattle.std.proofs.Common.{◌≡◌, ℕ, Bool, true, false, cond, List, [], ◌∷◌, ◌++◌, refl, ◌∙◌, ap, append_assoc, append-nil, arith, ◌==◌}
+use Rattle.std.proofs.lemmas.Bool.{and_parts, and_from}
 use Rattle.std.specs.List.{list_all}
 use Rattle.std.proofs.lemmas.Bool.Decides.{nat_tests}
-use Rattle.reo_values.proofs.Truths.{and_left, and_right}
-use Rattle.reo_grammar.proofs.Sound.{and-both}
 use Rattle.reo_lexer.specs.Gaps.{is_space, is_no_lf, IsGap}
 use Rattle.reo_lexer.specs.Gaps.IsGap.{no_gap, space, comment}
 use Rattle.reo_lexer.specs.Skipping.{behind}
@@ -11,8 +10,8 @@ use Rattle.reo_lexer.specs.Skipping.{behind}
 comment-skipped : (c g rest : List ℕ) → list_all is_no_lf c ≡ true → behind true ((c ++ (10 ∷ g)) ++ rest) ≡ behind false (g ++ rest)
 comment-skipped [] g rest e = refl
 comment-skipped (b ∷ c) g rest e =
-    let n : is_no_lf b ≡ true = and_left (is_no_lf b) (list_all is_no_lf c) e in
-    rw (n, behind) (comment-skipped c g rest (and_right (is_no_lf b) (list_all is_no_lf c) e))
+    let n : is_no_lf b ≡ true = (and_parts (is_no_lf b) (list_all is_no_lf c) e).0 in
+    rw (n, behind) (comment-skipped c g rest ((and_parts (is_no_lf b) (list_all is_no_lf c) e).1))
 
 -- Behind a gap stands what no gap begins.
 pub gap-skipped : (g rest : List ℕ) → IsGap g → behind false (g ++ rest) ≡ behind false rest
@@ -26,7 +25,7 @@ Skipped true bs r = (c : List ℕ) × (g : List ℕ) × (list_all is_no_lf c ≡
 Skipped false bs r = (g : List ℕ) × IsGap g × (bs ≡ g ++ r)
 
 in_comment : (x : ℕ) (bs r : List ℕ) (y : Bool) → is_no_lf x ≡ y → Skipped y bs r → Skipped true (x ∷ bs) r
-in_comment x bs r true e (c, g, h, i, w) = (x ∷ c, g, and-both (is_no_lf x) (list_all is_no_lf c) e h, i, ap (λ l. x ∷ l) w)
+in_comment x bs r true e (c, g, h, i, w) = (x ∷ c, g, and_from (is_no_lf x) (list_all is_no_lf c) e h, i, ap (λ l. x ∷ l) w)
 in_comment x bs r false e (g, i, w) = let n : x ≡ 10 = grind (arith, nat_tests) in ([], g, refl, i, rw (n, w) refl)
 
 in_gap : (x : ℕ) (bs r : List ℕ) (y z : Bool) → is_space x ≡ y → (x == 35) ≡ z → (y ≡ true → Skipped false bs r) → (z ≡ true → Skipped true bs r)

@@ -2,7 +2,7 @@
 use Rattle.std.proofs.Common.{◌≡◌, ℕ, zero, suc, ◌+◌, ◌-◌, ◌≤◌, true, List, [], ◌∷◌, ◌++◌, length, take, drop, refl, sym, ◌∙◌, ap, arith, length-append, length-drop, drop-drop, Ok, Err, Result, All, IfOk}
 use Rattle.reo_grammar.specs.Spelling.{spells, is_short}
 use Rattle.reo_grammar.specs.Tokens.{is_real, AreReal}
-use Rattle.reo_grammar.proofs.Sound.{and-both}
+use Rattle.std.proofs.lemmas.Bool.{and_from}
 use Rattle.reo_lexer.specs.declared.token.Token.{Token}
 use Rattle.reo_lexer.specs.declared.token.LexFault.{LexFault}
 use Rattle.reo_lexer.specs.Lexing.{Leads, Runs, AtEnd, IsTokens, lexeme_of, lexemes_of, Lies}
@@ -29,7 +29,7 @@ lead-lies text at line left t after h e l =
     let b : take (t.end - t.start) (drop t.start text) ≡ l.bytes = take-cut (drop t.start text) l.bytes after (t.end - t.start) d (omega (arith, l.end)) in
     let f : drop t.end text ≡ after =
     ap (λ z. drop z text) (l.end ∙ omega arith) ∙ sym (drop-drop (length l.bytes) t.start text) ∙ drop-cut (drop t.start text) l.bytes after (length l.bytes) d refl in
-    ((omega (arith, l.end), omega (arith, l.end, l.start)), sym f, b, rw b (and-both (spells t.kind l.bytes) (is_short t.kind l.bytes) l.token.spelled l.token.short))
+    ((omega (arith, l.end), omega (arith, l.end, l.start)), sym f, b, rw b (and_from (spells t.kind l.bytes) (is_short t.kind l.bytes) l.token.spelled l.token.short))
 
 pub runs-lie : (End : ℕ → List ℕ → Type 0) (text : List ℕ) (at line : ℕ) (left : List ℕ) (ts : List Token) → at ≤ length text → left ≡ drop at text → Runs End at line left ts
     → AllLie text ts × AreReal (lexemes_of text ts)

@@ -2,14 +2,13 @@
 use Rattle.std.proofs.Common.{◌≡◌, inl, inr, ℕ, zero, suc, ◌+◌, ◌*◌, ◌<◌, ◌&&◌, ◌||◌, Bool, true, false, cond, Option, List, [], ◌∷◌, ◌++◌, length, slice_index, slice_index_or, refl, sym, ap, ◌∙◌, subst, arith}
 use Rattle.std.specs.Bool.{◌==◌}
 use Rattle.std.specs.Prelude.{Contains}
-use Rattle.std.proofs.lemmas.Bool.{and_parts, cases_Bool}
+use Rattle.std.proofs.lemmas.Bool.{and_parts, cases_Bool, ne_eqb}
 use Rattle.std.proofs.lemmas.Bool.Decides.{nat_tests}
 use Rattle.std.proofs.lemmas.List.{get_or_default}
 use Rattle.std.specs.declared.cmp.Ordering.TheVariants.{Less}
 use Rattle.std.specs.Ordering.{nat_cmp}
 use Rattle.std.specs.Cmp.Lexicographic.{slice_cmp}
 use Rattle.reo_values.specs.declared.value.Value.{Value}
-use Rattle.reo_values.proofs.Naturals.{other_eq}
 use Rattle.reo_net_base.specs.declared.joint.End.{End}
 use Rattle.reo_net_base.specs.declared.joint.Joint.{Joint}
 use Rattle.reo_net_base.specs.declared.mark.Mark.{Mark}
@@ -186,7 +185,7 @@ module _ (net : Net) (wired : IsWired net) (inside : ℕ → Bool) (knot : IsKno
       no_jam = λ k lt h.
           let o = owner_of net.primitives k lt in
           let p = plain_at k o h in
-          ap (λ (s : Side). slice_index rows k + 1 == row_count s) (owner_side net.primitives k o no_side) ∙ other_eq (slice_index rows k + 1) ((behaviour_at net.primitives o.primitive).rows o.number) (λ e. omega (arith, p, e));
+          ap (λ (s : Side). slice_index rows k + 1 == row_count s) (owner_side net.primitives k o no_side) ∙ ne_eqb (slice_index rows k + 1) ((behaviour_at net.primitives o.primitive).rows o.number) (λ e. omega (arith, p, e));
     }
 
     pub pinned_fits : Fits net inside sets rows

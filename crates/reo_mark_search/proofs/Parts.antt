@@ -3,13 +3,12 @@ use Rattle.std.proofs.Common.{◌≡◌, inl, inr, ℕ, zero, suc, ◌+◌, ◌<
 use Rattle.std.specs.Prelude.{Contains, filter, nat_lt}
 use Rattle.std.specs.Bool.{◌==◌}
 use Rattle.std.specs.List.{range_with_len}
-use Rattle.std.proofs.lemmas.Bool.{cases_eq, and_parts}
-use Rattle.reo_values.proofs.Naturals.{true_lt}
+use Rattle.std.proofs.lemmas.Bool.{cases_eq, and_parts, ltb-true, cases_lt}
 use Rattle.reo_net_base.specs.Behaviour.{Behaviour}
 use Rattle.reo_net_base.specs.Net.{Net, behaviour_at, first_side}
 use Rattle.reo_net_base.specs.Sides.{side_count}
 use Rattle.reo_net_laws.specs.Sublists.{sides_in}
-use Rattle.reo_net_laws.proofs.Sides.{below_or, first_before}
+use Rattle.reo_net_laws.proofs.Sides.{first_before}
 use Rattle.reo_net_laws.specs.Knots.{Knotted, AreKnots, in_knot, knot_count}
 
 filter_at : (f : ℕ → Bool) (n a q : ℕ) → q < length (filter f (range_with_len a n)) → (f (slice_index (filter f (range_with_len a n)) q) ≡ true) × (slice_index (filter f (range_with_len a n)) q < a + n)
@@ -62,7 +61,7 @@ module _ (net : Net) (knots : Knotted) (are : AreKnots net knots) (part : ℕ) (
 pub side_one : (bs : List Behaviour) (i s j t : ℕ) → i < length bs → s < (behaviour_at bs i).sides → j < length bs → t < (behaviour_at bs j).sides → first_side bs i + s ≡ first_side bs j + t → (i ≡ j) × (s ≡ t)
 side_one bs i s j t i_in s_in j_in t_in same = elim (cases_eq i j) [
   | inl e ↦ (e, let firsts = ap (first_side bs) e in omega (arith, same, firsts))
-  | inr ne ↦ elim (below_or i j) [
+  | inr ne ↦ elim (cases_lt i j) [
     | inl less ↦ let before = first_before bs i j less (omega (arith, j_in)) in absurd (omega (arith, before, same, s_in))
     | inr le ↦ let before = first_before bs j i (omega (arith, le, ne)) (omega (arith, i_in)) in absurd (omega (arith, before, same, t_in))
   ]
@@ -70,6 +69,6 @@ side_one bs i s j t i_in s_in j_in t_in same = elim (cases_eq i j) [
 
 pub knot_below : (net : Net) (knots : Knotted) → AreKnots net knots → (part k : ℕ) → in_knot knots.numbers part k ≡ true → k < side_count net
 knot_below net knots are part k h =
-    let lt = true_lt k (length knots.numbers) (and_parts (nat_lt k (length knots.numbers)) (slice_index knots.numbers k == part) h).0 in
+    let lt = ltb-true k (length knots.numbers) (and_parts (nat_lt k (length knots.numbers)) (slice_index knots.numbers k == part) h).0 in
     let count = are.numbered.one_each in
     omega (arith, lt, count)

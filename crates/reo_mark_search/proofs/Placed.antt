@@ -1,8 +1,7 @@
 -- The places of ends.
 use Rattle.std.proofs.Common.{◌≡◌, ◌≢◌, ◌⊎◌, inl, inr, ℕ, zero, suc, ◌+◌, ◌-◌, ◌*◌, ◌%◌, ◌<◌, Bool, cond, List, [], ◌∷◌, length, slice_index, slice_index_or, refl, sym, ap, ◌∙◌, subst, arith}
 use Rattle.std.specs.Prelude.{Contains}
-use Rattle.std.proofs.lemmas.Bool.{cases_eq}
-use Rattle.reo_values.proofs.Naturals.{same_eq, other_eq}
+use Rattle.std.proofs.lemmas.Bool.{cases_eq, eq-eqb, ne_eqb}
 use Rattle.reo_net_base.specs.declared.form.Form.{Form}
 use Rattle.reo_net_base.specs.declared.form.Form.TheVariants.{Single, Double, Merging, Replicating}
 use Rattle.reo_net_base.specs.declared.joint.End.{End}
@@ -20,10 +19,10 @@ use Rattle.reo_mark_search.specs.Spots.{spot_of, AreSpots, end_by, AreEndsOf}
 
 -- The other end of a joint.
 pub partner_even : (j : ℕ) → partner (2 * j) ≡ 2 * j + 1
-partner_even j = ap (λ (t : Bool). cond t (2 * j + 1) (2 * j - 1)) (same_eq (2 * j % 2) 0 (omega arith))
+partner_even j = ap (λ (t : Bool). cond t (2 * j + 1) (2 * j - 1)) (eq-eqb (2 * j % 2) 0 (omega arith))
 
 pub partner_odd : (j : ℕ) → partner (2 * j + 1) ≡ 2 * j
-partner_odd j = ap (λ (t : Bool). cond t (2 * j + 1 + 1) (2 * j + 1 - 1)) (other_eq ((2 * j + 1) % 2) 0 (λ e. omega (arith, e))) ∙ omega arith
+partner_odd j = ap (λ (t : Bool). cond t (2 * j + 1 + 1) (2 * j + 1 - 1)) (ne_eqb ((2 * j + 1) % 2) 0 (λ e. omega (arith, e))) ∙ omega arith
 
 -- The ends of a form.
 pub place_in : (form : Form) (side o : ℕ) → o < width_by form → IsPlaceOf form side (end_by form side o)

@@ -1,10 +1,9 @@
 -- What is done at a side, and rows that fit.
 use Rattle.std.proofs.Common.{◌≡◌, inl, inr, ℕ, ◌+◌, ◌*◌, ◌<◌, ◌≤◌, ◌||◌, Bool, true, false, List, length, slice_index, slice_index_or, refl, sym, ap, ◌∙◌, subst, arith}
 use Rattle.std.specs.Bool.{◌==◌}
-use Rattle.std.proofs.lemmas.Bool.{and_from}
+use Rattle.std.proofs.lemmas.Bool.{and_from, and_parts}
 use Rattle.std.proofs.lemmas.Bool.Decides.{nat_tests}
 use Rattle.std.proofs.lemmas.List.{get_or_default}
-use Rattle.reo_values.proofs.Truths.{and_left}
 use Rattle.reo_net_base.specs.declared.form.Form.{Form}
 use Rattle.reo_net_base.specs.declared.joint.End.{End}
 use Rattle.reo_net_base.specs.declared.joint.Joint.{Joint}
@@ -199,9 +198,9 @@ module _ (net : Net) (wired : IsWired net) (spots : List (List ℕ)) (are : AreS
   narrowed_stands old new is row w = record { plain = w.plain; each = λ o lt. (is.exact o (mark_by form row o) lt).1 (row, w, refl) }
 
   met_has : (own theirs : PlainMarks) (m : Mark) → has (met own theirs) m ≡ true → has own m ≡ true
-  met_has own theirs F h = and_left own.flow theirs.flow h
-  met_has own theirs G h = and_left own.given (theirs.given || theirs.required) h
-  met_has own theirs R h = and_left own.required theirs.given h
+  met_has own theirs F h = (and_parts own.flow theirs.flow h).0
+  met_has own theirs G h = (and_parts own.given (theirs.given || theirs.required) h).0
+  met_has own theirs R h = (and_parts own.required theirs.given h).0
   met_has own theirs J h = cc
 
   narrowed_fewer : (old new : List PlainMarks) → IsNarrowed form places old new → AreFewer old new

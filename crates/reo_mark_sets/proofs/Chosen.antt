@@ -1,7 +1,6 @@
 -- The first row that stands.
 use Rattle.std.proofs.Common.{◌≡◌, inl, inr, ◌↔◌, ℕ, zero, suc, ◌+◌, ◌<◌, ◌≤◌, Bool, true, false, cond, List, [], ◌∷◌, length, slice_index, set, sym, ap, ◌∙◌, refl, subst, arith}
-use Rattle.std.proofs.lemmas.Bool.{cases_eq}
-use Rattle.reo_values.proofs.Naturals.{lt_cases}
+use Rattle.std.proofs.lemmas.Bool.{cases_eq, cases_lt}
 use Rattle.reo_net_base.specs.declared.mark.Mark.{Mark}
 use Rattle.reo_net_base.specs.declared.table.Table.{Table}
 use Rattle.reo_net_base.specs.declared.table.Table.TheVariants.{Ready, Resting, Together, Lossy, OneOfTwo, Filter, Spent}
@@ -105,7 +104,7 @@ module _ (branches : Branches) (places : List ℕ) (width : length places ≡ br
     plain = omega (arith, found.in_range);
     least = λ r s. elim (still_or branches places width some sets r s) [
       | inl still ↦ omega (arith, found.in_range, still.0)
-      | inr f ↦ elim (lt_cases r i) [ inl early ↦ let fails = found.first r (omega arith) early in let holds = f.1 in absurd (cc) | inr le ↦ le ]
+      | inr f ↦ elim (cases_lt r i) [ inl early ↦ let fails = found.first r (omega arith) early in let holds = f.1 in absurd (cc) | inr le ↦ le ]
     ];
   }
 
@@ -118,7 +117,7 @@ output_first branches places width sets no_flow no_reason o found = record {
     | inl f ↦ let holds = f.1 in absurd (cc)
     | inr g ↦ elim g [
       | inl f ↦ let holds = f.1 in absurd (cc)
-      | inr f ↦ elim (lt_cases f.0 o) [ inl early ↦ let fails = found.first f.0 f.1 early in let holds = f.4 in absurd (cc) | inr le ↦ omega (arith, le, f.3) ]
+      | inr f ↦ elim (cases_lt f.0 o) [ inl early ↦ let fails = found.first f.0 f.1 early in let holds = f.4 in absurd (cc) | inr le ↦ omega (arith, le, f.3) ]
     ]
   ];
 }

@@ -4,11 +4,10 @@ use Rattle.std.specs.Prelude.{nat_lt, nat_le, map, MatchOption}
 use Rattle.std.specs.Bool.{◌==◌}
 use Rattle.std.proofs.Math.Nat.{add-mod_left, mod-eq_of_lt}
 use Rattle.std.proofs.lemmas.Nat.{mod_below}
-use Rattle.std.proofs.lemmas.Bool.{cases_eq, and_parts, and_from}
+use Rattle.std.proofs.lemmas.Bool.{cases_eq, and_parts, and_from, eqb-true, cases_lt, lt-ltb, le-ltb, eq-eqb, ne_eqb}
 use Rattle.std.proofs.lemmas.Bool.Decides.{nat_tests}
 use Rattle.std.proofs.lemmas.List.{length-set, length-map}
 use Rattle.std.specs.List.{position_or_len}
-use Rattle.reo_values.proofs.Naturals.{eq_same, lt_cases, lt_true, lt_false, same_eq, other_eq}
 use Rattle.reo_values.proofs.Truths.{if_then}
 use Rattle.reo_net_base.specs.declared.mark.Mark.{Mark}
 use Rattle.reo_net_base.specs.declared.mark.Mark.TheVariants.{F, G, R, J}
@@ -162,10 +161,10 @@ module _ (least number : ℕ) (old new : Bool) (h : is_taken least number old ne
   taken_least e = let le : nat_le least number ≡ true = if_then old (nat_le least number) more.0 e in grind (arith, nat_tests)
 
   pub taken_only : new ≡ true → number ≡ least
-  taken_only e = eq_same number least (if_then new (number == least) more.1 e)
+  taken_only e = eqb-true number least (if_then new (number == least) more.1 e)
 
   pub taken_stay : old ≡ true → number ≡ least → new ≡ true
-  taken_stay e same = if_then (old && (number == least)) new parts.1 (and_from old (number == least) e (same_eq number least same))
+  taken_stay e same = if_then (old && (number == least)) new parts.1 (and_from old (number == least) e (eq-eqb number least same))
 
 classes_count : (rows : Rows) → length rows ≤ length (classes_of rows)
 classes_count rows =
@@ -297,7 +296,7 @@ module _ (n turn : ℕ) (some : 0 < n) where
   begins_in = mod_below (turn - 1) n some
 
   class_flows : (x : ℕ) → x < n → merger_class n x turn ≡ (x + n - begins) % n
-  class_flows x lt = ap (λ (t : Bool). cond t ((x + n - begins) % n) (cond (nat_lt x (n + 2)) n (n + 1))) (lt_true x n lt)
+  class_flows x lt = ap (λ (t : Bool). cond t ((x + n - begins) % n) (cond (nat_lt x (n + 2)) n (n + 1))) (lt-ltb x n lt)
 
   class_after : (x : ℕ) → x < n → begins ≤ x → merger_class n x turn ≡ x - begins
   class_after x lt le =
@@ -311,15 +310,15 @@ module _ (n turn : ℕ) (some : 0 < n) where
   class_low x lt = subst (λ (k : ℕ). k < n) (sym (class_flows x lt)) (mod_below (x + n - begins) n some)
 
   pub class_still : (x : ℕ) → n ≤ x → x < n + 2 → merger_class n x turn ≡ n
-  class_still x le lt = λ i. cond (lt_false x n le i) ((x + n - begins) % n) (cond (lt_true x (n + 2) lt i) n (n + 1))
+  class_still x le lt = λ i. cond (le-ltb x n le i) ((x + n - begins) % n) (cond (lt-ltb x (n + 2) lt i) n (n + 1))
 
   pub class_one : (x y : ℕ) → x < n → y < n → merger_class n x turn ≡ merger_class n y turn → x ≡ y
-  class_one x y x_in y_in same = elim (lt_cases x begins) [
-    | inl x_less ↦ elim (lt_cases y begins) [
+  class_one x y x_in y_in same = elim (cases_lt x begins) [
+    | inl x_less ↦ elim (cases_lt y begins) [
       | inl y_less ↦ omega (arith, class_before x x_in x_less, class_before y y_in y_less, same, begins_in)
       | inr y_le ↦ absurd (omega (arith, class_before x x_in x_less, class_after y y_in y_le, same, begins_in))
     ]
-    | inr x_le ↦ elim (lt_cases y begins) [
+    | inr x_le ↦ elim (cases_lt y begins) [
       | inl y_less ↦ absurd (omega (arith, class_after x x_in x_le, class_before y y_in y_less, same, begins_in))
       | inr y_le ↦ omega (arith, class_after x x_in x_le, class_after y y_in y_le, same)
     ]
@@ -330,9 +329,9 @@ module _ (n turn : ℕ) (some : 0 < n) where
     turn_after i found = record {
       in_range = found.in_range;
       here = found.here;
-      first = λ e e_in holds. elim (lt_cases e begins) [
+      first = λ e e_in holds. elim (cases_lt e begins) [
         | inl less ↦ omega (arith, class_after i found.in_range found.after, class_before e e_in less, found.in_range)
-        | inr le ↦ elim (lt_cases e i) [
+        | inr le ↦ elim (cases_lt e i) [
           | inl early ↦ let fails : test e ≡ false = found.first e le early in absurd (cc)
           | inr late ↦ omega (arith, class_after i found.in_range found.after, class_after e e_in le, late)
         ]
@@ -345,8 +344,8 @@ module _ (n turn : ℕ) (some : 0 < n) where
         record {
           in_range = i_in;
           here = found.here;
-          first = λ e e_in holds. elim (lt_cases e begins) [
-            | inl less ↦ elim (lt_cases e i) [
+          first = λ e e_in holds. elim (cases_lt e begins) [
+            | inl less ↦ elim (cases_lt e i) [
               | inl early ↦ let fails : test e ≡ false = found.first e (omega arith) early in absurd (cc)
               | inr late ↦ omega (arith, class_before i i_in found.in_range, class_before e e_in less, late)
             ]
@@ -356,7 +355,7 @@ module _ (n turn : ℕ) (some : 0 < n) where
 
     pub turn_either : (r : Option ℕ) → ((o : ℕ) → begins ≤ o → o < n → test o ≡ false) → MatchOption r ((o : ℕ) → 0 ≤ o → o < begins → test o ≡ false) (IsFirstBetween test 0 begins)
         → MatchOption r ((o : ℕ) → o < n → test o ≡ false) (IsFirstInTurn test n turn)
-    turn_either None none found = λ o lt. elim (lt_cases o begins) [ inl less ↦ found o (omega arith) less | inr le ↦ none o le lt ]
+    turn_either None none found = λ o lt. elim (cases_lt o begins) [ inl less ↦ found o (omega arith) less | inr le ↦ none o le lt ]
     turn_either (Some i) none found = turn_before none i found
 
 -- The rows of a merger that stand, by their kinds.
@@ -381,7 +380,7 @@ module _ (branches : Branches) (places : List ℕ) (width : length places ≡ br
 
     at_input : (x : ℕ) → x < n → x ≡ row → (marks_at sets (slice_index places x)).flow ≡ true
     at_input x lt e =
-        subst (λ (m : Mark). has (marks_at sets (slice_index places x)) m ≡ true) (spoke_is Merger n (apart x) x (λ f. omega (arith, lt, f)) ∙ ap (λ (t : Bool). cond t F G) (same_eq x x refl))
+        subst (λ (m : Mark). has (marks_at sets (slice_index places x)) m ≡ true) (spoke_is Merger n (apart x) x (λ f. omega (arith, lt, f)) ∙ ap (λ (t : Bool). cond t F G) (eq-eqb x x refl))
         (marked (apart x) (omega arith, lt) e x (omega (arith, lt)))
 
     -- A row by which no input flows.
@@ -440,13 +439,13 @@ module _ (branches : Branches) (places : List ℕ) (width : length places ≡ br
           let m : F ≡ cond (i == x) F G = flows ∙ mark_of_kind (apart x) is row e i (omega (arith, lt)) ∙ spoke_is Merger n (apart x) i away in
           elim (cases_eq i x) [
             | inl same ↦ omega (arith, e, same)
-            | inr ne ↦ let no_flow : F ≡ G = m ∙ ap (λ (t : Bool). cond t F G) (other_eq i x ne) in absurd (cc)
+            | inr ne ↦ let no_flow : F ≡ G = m ∙ ap (λ (t : Bool). cond t F G) (ne_eqb i x ne) in absurd (cc)
           ]
       by rest is e = let m : F ≡ G = flows ∙ mark_of_kind rest is row e i (omega (arith, lt)) ∙ spoke_is Merger n rest i away in absurd (cc)
       by other is e = let m : F ≡ R = flows ∙ mark_of_kind other is row e i (omega (arith, lt)) ∙ spoke_is Merger n other i away in absurd (cc)
 
   flow_here : (i : ℕ) → i < n → mark_by (Merging branches) i i ≡ F
-  flow_here i lt = mark_of_kind (apart i) (omega arith, lt) i refl i (omega (arith, lt)) ∙ spoke_is Merger n (apart i) i (λ e. omega (arith, lt, e)) ∙ ap (λ (t : Bool). cond t F G) (same_eq i i refl)
+  flow_here i lt = mark_of_kind (apart i) (omega arith, lt) i refl i (omega (arith, lt)) ∙ spoke_is Merger n (apart i) i (λ e. omega (arith, lt, e)) ∙ ap (λ (t : Bool). cond t F G) (eq-eqb i i refl)
 
   flow_out : (i : ℕ) → i < n → mark_by (Merging branches) i n ≡ F
   flow_out i lt = mark_of_kind (apart i) (omega arith, lt) i refl n (omega arith) ∙ center_is Merger n (apart i) n refl
@@ -549,14 +548,14 @@ module _ (branches : Branches) (places : List ℕ) (width : length places ≡ br
         is.1,
         e,
         subst (λ (m : Mark). has (marks_at sets (slice_index places x)) m ≡ true)
-            (copy_mark (apart x) is row e x is.1 ∙ spoke_is Replicator 0 (apart x) x (λ f. omega (arith, is.0, f)) ∙ ap (λ (t : Bool). cond t R G) (same_eq x x refl))
+            (copy_mark (apart x) is row e x is.1 ∙ spoke_is Replicator 0 (apart x) x (λ f. omega (arith, is.0, f)) ∙ ap (λ (t : Bool). cond t R G) (eq-eqb x x refl))
             (s.each x (omega (arith, is.1, width))),
       ))
       by rest is e = inr (inl (sym e, subst (λ (m : Mark). has (marks_at sets (slice_index places 0)) m ≡ true) (input_mark rest is row e) (s.each 0 first_in)))
       by other is e = inl (sym e, subst (λ (m : Mark). has (marks_at sets (slice_index places 0)) m ≡ true) (input_mark other is row e) (s.each 0 first_in))
 
   copy_class : (row turn : ℕ) → 0 < row → row + 1 < outputs + 3 → replicator_class outputs row ≡ 1
-  copy_class row turn some lt = λ i. cond (other_eq row 0 (λ e. omega (arith, e, some)) i) 0 (cond (lt_true row (outputs + 2) (omega (arith, lt)) i) 1 2)
+  copy_class row turn some lt = λ i. cond (ne_eqb row 0 (λ e. omega (arith, e, some)) i) 0 (cond (lt-ltb row (outputs + 2) (omega (arith, lt)) i) 1 2)
 
   flow_zero : (row : ℕ) → row + 1 < outputs + 3 → F ≡ mark_by (Replicating branches) row 0 → row ≡ 0
   flow_zero row plain flows = let k = copies.each row plain in by k.0 k.1 k.2

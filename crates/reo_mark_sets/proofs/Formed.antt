@@ -1,8 +1,7 @@
 -- The rows of mergers and replicators, by their kinds.
 use Rattle.std.proofs.Common.{◌≡◌, inl, inr, ◌↔◌, ℕ, zero, suc, ◌+◌, ◌<◌, Bool, true, false, cond, List, length, slice_index, refl, sym, ap, ◌∙◌, subst, arith}
 use Rattle.std.specs.Bool.{◌==◌}
-use Rattle.std.proofs.lemmas.Bool.{cases_eq}
-use Rattle.reo_values.proofs.Naturals.{lt_true, lt_false, same_eq, other_eq}
+use Rattle.std.proofs.lemmas.Bool.{cases_eq, lt-ltb, le-ltb, eq-eqb, ne_eqb}
 use Rattle.reo_net_base.specs.declared.mark.Mark.{Mark}
 use Rattle.reo_net_base.specs.declared.mark.Mark.TheVariants.{F, G, R, J}
 use Rattle.reo_net_base.specs.declared.branches.Branches.{Branches}
@@ -62,22 +61,22 @@ merger_row n other = n + 1
 
 merger_marks : (n : ℕ) (kind : Kind) (o : ℕ) → IsKind 0 n kind → o < n + 1 → merger_mark n (merger_row n kind) o ≡ kind_mark Merger n kind o
 merger_marks n (apart x) o is lt =
-    ap (λ (t : Bool). cond t (inputs_and_output n (cond (o == x) F G) F o) (cond (x == n) (inputs_and_output n G R o) (cond (x == n + 1) (inputs_and_output n R G o) J))) (lt_true x n is.1)
+    ap (λ (t : Bool). cond t (inputs_and_output n (cond (o == x) F G) F o) (cond (x == n) (inputs_and_output n G R o) (cond (x == n + 1) (inputs_and_output n R G o) J))) (lt-ltb x n is.1)
     ∙ elim (cases_eq o n) [
-      | inl e ↦ ap (λ (t : Bool). cond t (cond (o == x) F G) F) (lt_false o n (omega arith)) ∙ sym (ap (λ (t : Bool). cond t F (cond (o == x) F G)) (same_eq o n e))
-      | inr ne ↦ ap (λ (t : Bool). cond t (cond (o == x) F G) F) (lt_true o n (omega arith)) ∙ sym (ap (λ (t : Bool). cond t F (cond (o == x) F G)) (other_eq o n ne))
+      | inl e ↦ ap (λ (t : Bool). cond t (cond (o == x) F G) F) (le-ltb o n (omega arith)) ∙ sym (ap (λ (t : Bool). cond t F (cond (o == x) F G)) (eq-eqb o n e))
+      | inr ne ↦ ap (λ (t : Bool). cond t (cond (o == x) F G) F) (lt-ltb o n (omega arith)) ∙ sym (ap (λ (t : Bool). cond t F (cond (o == x) F G)) (ne_eqb o n ne))
     ]
 merger_marks n rest o is lt =
-    (λ i. cond (lt_false n n (omega arith) i) (inputs_and_output n (cond (o == n) F G) F o) (cond (same_eq n n refl i) (inputs_and_output n G R o) (cond (n == n + 1) (inputs_and_output n R G o) J)))
+    (λ i. cond (le-ltb n n (omega arith) i) (inputs_and_output n (cond (o == n) F G) F o) (cond (eq-eqb n n refl i) (inputs_and_output n G R o) (cond (n == n + 1) (inputs_and_output n R G o) J)))
     ∙ elim (cases_eq o n) [
-      | inl e ↦ ap (λ (t : Bool). cond t G R) (lt_false o n (omega arith)) ∙ sym (ap (λ (t : Bool). cond t R G) (same_eq o n e))
-      | inr ne ↦ ap (λ (t : Bool). cond t G R) (lt_true o n (omega arith)) ∙ sym (ap (λ (t : Bool). cond t R G) (other_eq o n ne))
+      | inl e ↦ ap (λ (t : Bool). cond t G R) (le-ltb o n (omega arith)) ∙ sym (ap (λ (t : Bool). cond t R G) (eq-eqb o n e))
+      | inr ne ↦ ap (λ (t : Bool). cond t G R) (lt-ltb o n (omega arith)) ∙ sym (ap (λ (t : Bool). cond t R G) (ne_eqb o n ne))
     ]
 merger_marks n other o is lt =
-    (λ i. cond (lt_false (n + 1) n (omega arith) i) (inputs_and_output n (cond (o == n + 1) F G) F o) (cond (other_eq (n + 1) n (λ e. omega (arith, e)) i) (inputs_and_output n G R o) (cond (same_eq (n + 1) (n + 1) refl i) (inputs_and_output n R G o) J)))
+    (λ i. cond (le-ltb (n + 1) n (omega arith) i) (inputs_and_output n (cond (o == n + 1) F G) F o) (cond (ne_eqb (n + 1) n (λ e. omega (arith, e)) i) (inputs_and_output n G R o) (cond (eq-eqb (n + 1) (n + 1) refl i) (inputs_and_output n R G o) J)))
     ∙ elim (cases_eq o n) [
-      | inl e ↦ ap (λ (t : Bool). cond t R G) (lt_false o n (omega arith)) ∙ sym (ap (λ (t : Bool). cond t G R) (same_eq o n e))
-      | inr ne ↦ ap (λ (t : Bool). cond t R G) (lt_true o n (omega arith)) ∙ sym (ap (λ (t : Bool). cond t G R) (other_eq o n ne))
+      | inl e ↦ ap (λ (t : Bool). cond t R G) (le-ltb o n (omega arith)) ∙ sym (ap (λ (t : Bool). cond t G R) (eq-eqb o n e))
+      | inr ne ↦ ap (λ (t : Bool). cond t R G) (lt-ltb o n (omega arith)) ∙ sym (ap (λ (t : Bool). cond t G R) (ne_eqb o n ne))
     ]
 
 merger_each : (n row : ℕ) → row + 1 < n + 3 → (kind : Kind) × IsKind 0 n kind × (merger_row n kind ≡ row)
@@ -109,16 +108,16 @@ replicator_row other = 0
 
 replicator_marks : (n : ℕ) (kind : Kind) (o : ℕ) → IsKind 1 (n + 1) kind → o < n + 1 → replicator_mark n (replicator_row kind) o ≡ kind_mark Replicator 0 kind o
 replicator_marks n (apart x) o is lt =
-    (λ i. cond (other_eq (x + 1) 0 (λ e. omega (arith, e)) i) F (cond (other_eq (x + 1) 1 (λ e. omega (arith, e, is.0)) i) (input_and_outputs R G o) (cond (lt_true (x + 1) (n + 2) (omega (arith, is.1)) i) (cond (o + 1 == x + 1) R G) J)))
+    (λ i. cond (ne_eqb (x + 1) 0 (λ e. omega (arith, e)) i) F (cond (ne_eqb (x + 1) 1 (λ e. omega (arith, e, is.0)) i) (input_and_outputs R G o) (cond (lt-ltb (x + 1) (n + 2) (omega (arith, is.1)) i) (cond (o + 1 == x + 1) R G) J)))
     ∙ elim (cases_eq o 0) [
-      | inl e ↦ ap (λ (t : Bool). cond t R G) (other_eq (o + 1) (x + 1) (λ f. omega (arith, e, f, is.0))) ∙ sym (ap (λ (t : Bool). cond t G (cond (o == x) R G)) (same_eq o 0 e))
-      | inr ne ↦ ap (λ (t : Bool). cond t R G) (plus_eq o x) ∙ sym (ap (λ (t : Bool). cond t G (cond (o == x) R G)) (other_eq o 0 ne))
+      | inl e ↦ ap (λ (t : Bool). cond t R G) (ne_eqb (o + 1) (x + 1) (λ f. omega (arith, e, f, is.0))) ∙ sym (ap (λ (t : Bool). cond t G (cond (o == x) R G)) (eq-eqb o 0 e))
+      | inr ne ↦ ap (λ (t : Bool). cond t R G) (plus_eq o x) ∙ sym (ap (λ (t : Bool). cond t G (cond (o == x) R G)) (ne_eqb o 0 ne))
     ]
   where
     plus_eq : (o x : ℕ) → (o + 1 == x + 1) ≡ (o == x)
     plus_eq o x = elim (cases_eq o x) [
-      | inl e ↦ same_eq (o + 1) (x + 1) (omega (arith, e)) ∙ sym (same_eq o x e)
-      | inr ne ↦ other_eq (o + 1) (x + 1) (λ e. ne (omega (arith, e))) ∙ sym (other_eq o x ne)
+      | inl e ↦ eq-eqb (o + 1) (x + 1) (omega (arith, e)) ∙ sym (eq-eqb o x e)
+      | inr ne ↦ ne_eqb (o + 1) (x + 1) (λ e. ne (omega (arith, e))) ∙ sym (ne_eqb o x ne)
     ]
 replicator_marks n rest o is lt = refl
 replicator_marks n other o is lt = both (o == 0)

@@ -1,7 +1,6 @@
 -- Rows that are listed, one by one.
 use Rattle.std.proofs.Common.{◌≡◌, inl, inr, ◌↔◌, ℕ, zero, suc, ◌<◌, ◌&&◌, ◌||◌, Bool, true, List, [], ◌∷◌, length, slice_index_or, refl, sym, subst, arith}
-use Rattle.std.proofs.lemmas.Bool.{and_parts, and_from}
-use Rattle.reo_values.proofs.Truths.{either}
+use Rattle.std.proofs.lemmas.Bool.{and_parts, and_from, or_cases}
 use Rattle.reo_net_base.specs.declared.mark.Mark.{Mark}
 use Rattle.reo_net_base.specs.declared.mark.Mark.TheVariants.{F, G, R, J}
 use Rattle.reo_net_base.specs.Rows.{Rows, mark_in}
@@ -59,7 +58,7 @@ Uses rows fits end m = (r : ℕ) × (r < length rows) × (fits (row_in rows r) �
 
 pub used_by : (rows : Rows) (fits : List Mark → Bool) (end : ℕ) (m : Mark) → is_used rows fits end m ≡ true → Uses rows fits end m
 used_by [] fits end m h = cc
-used_by (row ∷ rows) fits end m h = elim (either (fits row && is_mark m (mark_of row end)) (is_used rows fits end m) h) [
+used_by (row ∷ rows) fits end m h = elim (or_cases (fits row && is_mark m (mark_of row end)) (is_used rows fits end m) h) [
   | inl here ↦ let both = and_parts (fits row) (is_mark m (mark_of row end)) here in (zero, omega arith, both.0, sym (is_mark_same m (mark_of row end) both.1))
   | inr there ↦ let more = used_by rows fits end m there in (suc more.0, omega (arith, more.1), more.2, more.3)
 ]
@@ -79,9 +78,9 @@ used_exact rows fits end marks real m = (
 
 -- Some marks.
 pub some_has : (marks : PlainMarks) → (marks.flow || (marks.given || marks.required)) ≡ true → (m : Mark) × (has marks m ≡ true)
-some_has marks h = elim (either marks.flow (marks.given || marks.required) h) [
+some_has marks h = elim (or_cases marks.flow (marks.given || marks.required) h) [
   | inl x ↦ (F, x)
-  | inr y ↦ elim (either marks.given marks.required y) [ inl x ↦ (G, x) | inr x ↦ (R, x) ]
+  | inr y ↦ elim (or_cases marks.given marks.required y) [ inl x ↦ (G, x) | inr x ↦ (R, x) ]
 ]
 
 pub has_some : (marks : PlainMarks) (m : Mark) → has marks m ≡ true → (marks.flow || (marks.given || marks.required)) ≡ true

@@ -1,7 +1,7 @@
 -- Which rows of mergers and replicators work.
 use Rattle.std.proofs.Common.{◌≡◌, ◌≢◌, ◌⊎◌, inl, inr, ◌↔◌, ℕ, ◌<◌, ◌≤◌, ◌||◌, not, Bool, true, false, IsTrue, cond, List, length, slice_index, refl, sym, ap, ◌∙◌, subst, arith}
 use Rattle.std.specs.Bool.{◌==◌}
-use Rattle.std.proofs.lemmas.Bool.{cases_eq, cases_Bool, and_parts, and_from}
+use Rattle.std.proofs.lemmas.Bool.{cases_eq, cases_Bool, and_parts, and_from, eqb-true, eq-eqb, ne_eqb, or_cases}
 use Rattle.reo_net_base.specs.declared.mark.Mark.{Mark}
 use Rattle.reo_net_base.specs.declared.mark.Mark.TheVariants.{F, G, R, J}
 use Rattle.reo_net_base.specs.Rows.{alike}
@@ -17,8 +17,6 @@ use Rattle.reo_mark_sets.specs.Stars.Kind.{apart, rest, other}
 use Rattle.reo_mark_sets.specs.Stars.{Kind}
 use Rattle.reo_mark_sets.specs.Tallies.{IsTally, HoldsOften}
 pub use Rattle.std.proofs.lemmas.Bool.{or_left, or_right}
-use Rattle.reo_values.proofs.Naturals.{eq_same, same_eq, other_eq}
-use Rattle.reo_values.proofs.Truths.{either}
 
 not_false : (b : Bool) → alike false b ≡ false → b ≡ true
 not_false true h = refl
@@ -40,14 +38,14 @@ spoke_of star rest o = G
 spoke_of star other o = other_mark star
 
 pub center_is : (star : Star) (center : ℕ) (kind : Kind) (o : ℕ) → o ≡ center → kind_mark star center kind o ≡ center_of star kind
-center_is star center (apart x) o e = ap (λ (t : Bool). cond t (center_apart star) (cond (o == x) (apart_mark star) G)) (same_eq o center e)
-center_is star center rest o e = ap (λ (t : Bool). cond t R G) (same_eq o center e)
-center_is star center other o e = ap (λ (t : Bool). cond t (center_other star) (other_mark star)) (same_eq o center e)
+center_is star center (apart x) o e = ap (λ (t : Bool). cond t (center_apart star) (cond (o == x) (apart_mark star) G)) (eq-eqb o center e)
+center_is star center rest o e = ap (λ (t : Bool). cond t R G) (eq-eqb o center e)
+center_is star center other o e = ap (λ (t : Bool). cond t (center_other star) (other_mark star)) (eq-eqb o center e)
 
 pub spoke_is : (star : Star) (center : ℕ) (kind : Kind) (o : ℕ) → o ≢ center → kind_mark star center kind o ≡ spoke_of star kind o
-spoke_is star center (apart x) o e = ap (λ (t : Bool). cond t (center_apart star) (cond (o == x) (apart_mark star) G)) (other_eq o center e)
-spoke_is star center rest o e = ap (λ (t : Bool). cond t R G) (other_eq o center e)
-spoke_is star center other o e = ap (λ (t : Bool). cond t (center_other star) (other_mark star)) (other_eq o center e)
+spoke_is star center (apart x) o e = ap (λ (t : Bool). cond t (center_apart star) (cond (o == x) (apart_mark star) G)) (ne_eqb o center e)
+spoke_is star center rest o e = ap (λ (t : Bool). cond t R G) (ne_eqb o center e)
+spoke_is star center other o e = ap (λ (t : Bool). cond t (center_other star) (other_mark star)) (ne_eqb o center e)
 
 -- What is left at the center, mark by mark.
 center_left_has : (star : Star) (a : Multiplicity) (r o : Bool) (mark : Mark) → has (center_left star a r o) mark ≡ true
@@ -77,11 +75,11 @@ center_left_other Replicator a r o h = h
 spoke_left_has : (star : Star) (a : Multiplicity) (r o : Bool) (marks : PlainMarks) (e : ℕ) (mark : Mark) → has (spoke_left star a r o marks e) mark ≡ true
     → ((may_be a e ≡ true) × (has marks (apart_mark star) ≡ true) × (apart_mark star ≡ mark)) ⊎ (((r ≡ true) × (G ≡ mark)) ⊎ (((may_another a e ≡ true) × (G ≡ mark)) ⊎ ((o ≡ true) × (other_mark star ≡ mark))))
 spoke_left_has Merger a r o marks e F h = let both = and_parts (may_be a e) marks.flow h in inl (both.0, both.1, refl)
-spoke_left_has Merger a r o marks e G h = elim (either r (may_another a e) h) [ inl x ↦ inr (inl (x, refl)) | inr y ↦ inr (inr (inl (y, refl))) ]
+spoke_left_has Merger a r o marks e G h = elim (or_cases r (may_another a e) h) [ inl x ↦ inr (inl (x, refl)) | inr y ↦ inr (inr (inl (y, refl))) ]
 spoke_left_has Merger a r o marks e R h = inr (inr (inr (h, refl)))
 spoke_left_has Merger a r o marks e J h = cc
 spoke_left_has Replicator a r o marks e F h = inr (inr (inr (h, refl)))
-spoke_left_has Replicator a r o marks e G h = elim (either r (may_another a e) h) [ inl x ↦ inr (inl (x, refl)) | inr y ↦ inr (inr (inl (y, refl))) ]
+spoke_left_has Replicator a r o marks e G h = elim (or_cases r (may_another a e) h) [ inl x ↦ inr (inl (x, refl)) | inr y ↦ inr (inr (inl (y, refl))) ]
 spoke_left_has Replicator a r o marks e R h = let both = and_parts (may_be a e) marks.required h in inl (both.0, both.1, refl)
 spoke_left_has Replicator a r o marks e J h = cc
 
@@ -135,15 +133,15 @@ module _ (star : Star) (center from to : ℕ) (places : List ℕ) (sets : List P
 
   -- The mark of the end that is apart.
   apart_has : (x : ℕ) → Works (apart x) → has (left x) (apart_mark star) ≡ true
-  apart_has x w = subst (λ (t : Bool). has (left x) (cond t (apart_mark star) G) ≡ true) (same_eq x x refl) (works_spoke (apart x) w x w.is_kind.0 w.is_kind.1)
+  apart_has x w = subst (λ (t : Bool). has (left x) (cond t (apart_mark star) G) ≡ true) (eq-eqb x x refl) (works_spoke (apart x) w x w.is_kind.0 w.is_kind.1)
 
   beside_has : (x : ℕ) → Works (apart x) → (o : ℕ) → from ≤ o → o < to → o ≢ x → has (left o) G ≡ true
-  beside_has x w o le lt ne = subst (λ (t : Bool). has (left o) (cond t (apart_mark star) G) ≡ true) (other_eq o x ne) (works_spoke (apart x) w o le lt)
+  beside_has x w o le lt ne = subst (λ (t : Bool). has (left o) (cond t (apart_mark star) G) ≡ true) (ne_eqb o x ne) (works_spoke (apart x) w o le lt)
 
   apart_from : (x : ℕ) → from ≤ x → x < to → has (left center) (center_apart star) ≡ true → has (left x) (apart_mark star) ≡ true → ((o : ℕ) → from ≤ o → o < to → o ≢ x → has (left o) G ≡ true) → Works (apart x)
   apart_from x le lt here there beside = works_from (apart x) (le, lt) here (λ o o_le o_lt. elim (cases_eq o x) [
-    | inl e ↦ subst (λ (t : Bool). has (left o) (cond t (apart_mark star) G) ≡ true) (sym (same_eq o x e)) (subst (λ (y : ℕ). has (left y) (apart_mark star) ≡ true) (sym e) there)
-    | inr ne ↦ subst (λ (t : Bool). has (left o) (cond t (apart_mark star) G) ≡ true) (sym (other_eq o x ne)) (beside o o_le o_lt ne)
+    | inl e ↦ subst (λ (t : Bool). has (left o) (cond t (apart_mark star) G) ≡ true) (sym (eq-eqb o x e)) (subst (λ (y : ℕ). has (left y) (apart_mark star) ≡ true) (sym e) there)
+    | inr ne ↦ subst (λ (t : Bool). has (left o) (cond t (apart_mark star) G) ≡ true) (sym (ne_eqb o x ne)) (beside o o_le o_lt ne)
   ])
 
   module _ (here : has (left center) (center_apart star) ≡ true) where
@@ -209,17 +207,17 @@ module _ (star : Star) (center from to : ℕ) (places : List ℕ) (sets : List P
 
     here_apart : (t : Multiplicity) → AreAparts star center from to places sets t → (o : ℕ) → from ≤ o → o < to → may_be t o ≡ true → has (left o) (apart_mark star) ≡ true → Works (apart o)
     here_apart Nowhere a o le lt h there = cc
-    here_apart (Once i) a o le lt h there = subst (λ (x : ℕ). Works (apart x)) (eq_same i o h) a.0
+    here_apart (Once i) a o le lt h there = subst (λ (x : ℕ). Works (apart x)) (eqb-true i o h) a.0
     here_apart Often a o le lt h there = a.0 o le lt there
 
     apart_here : (t : Multiplicity) → AreAparts star center from to places sets t → (o : ℕ) → Works (apart o) → may_be t o ≡ true
     apart_here Nowhere a o w = absurd (a o w)
-    apart_here (Once i) a o w = same_eq i o (sym (a.1 o w))
+    apart_here (Once i) a o w = eq-eqb i o (sym (a.1 o w))
     apart_here Often a o w = refl
 
     another_apart : (t : Multiplicity) → AreAparts star center from to places sets t → (o : ℕ) → may_another t o ≡ true → (x : ℕ) × Works (apart x) × (o ≢ x)
     another_apart Nowhere a o h = cc
-    another_apart (Once i) a o h = (i, a.0, λ e. let same : (i == o) ≡ true = same_eq i o (sym e) in let not_same : not true ≡ true = subst (λ (t : Bool). not t ≡ true) same h in cc)
+    another_apart (Once i) a o h = (i, a.0, λ e. let same : (i == o) ≡ true = eq-eqb i o (sym e) in let not_same : not true ≡ true = subst (λ (t : Bool). not t ≡ true) same h in cc)
     another_apart Often a o h = elim (cases_eq a.1.one o) [
       | inl e ↦ (a.1.other, a.0 a.1.other (omega (arith, a.1.after, a.1.before)) a.1.in_range a.1.there, λ f. omega (arith, a.1.before, e, f))
       | inr ne ↦ (a.1.one, a.0 a.1.one a.1.after (omega (arith, a.1.before, a.1.in_range)) a.1.here, λ f. ne (sym f))
@@ -227,7 +225,7 @@ module _ (star : Star) (center from to : ℕ) (places : List ℕ) (sets : List P
 
     apart_another : (t : Multiplicity) → AreAparts star center from to places sets t → (x o : ℕ) → Works (apart x) → o ≢ x → may_another t o ≡ true
     apart_another Nowhere a x o w ne = absurd (a x w)
-    apart_another (Once i) a x o w ne = ap not (other_eq i o (λ e. ne (sym (a.1 x w ∙ e))))
+    apart_another (Once i) a x o w ne = ap not (ne_eqb i o (λ e. ne (sym (a.1 x w ∙ e))))
     apart_another Often a x o w ne = refl
 
     center_has : (mark : Mark) → has (center_left star aparts rests others) mark ≡ true → (kind : Kind) × Works kind × (center_of star kind ≡ mark)
@@ -247,11 +245,11 @@ module _ (star : Star) (center from to : ℕ) (places : List ℕ) (sets : List P
     module _ (o : ℕ) (le : from ≤ o) (lt : o < to) where
       spoke_has : (mark : Mark) → has (spoke_left star aparts rests others (left o) o) mark ≡ true → (kind : Kind) × Works kind × (spoke_of star kind o ≡ mark)
       spoke_has mark h = elim (spoke_left_has star aparts rests others (left o) o mark h) [
-        | inl x ↦ (apart o, here_apart aparts are o le lt x.0 x.1, ap (λ (t : Bool). cond t (apart_mark star) G) (same_eq o o refl) ∙ x.2)
+        | inl x ↦ (apart o, here_apart aparts are o le lt x.0 x.1, ap (λ (t : Bool). cond t (apart_mark star) G) (eq-eqb o o refl) ∙ x.2)
         | inr y ↦ elim y [
           | inl x ↦ (rest, rest_is.0 x.0, x.1)
           | inr z ↦ elim z [
-            | inl x ↦ let one = another_apart aparts are o x.0 in (apart one.0, one.1, ap (λ (t : Bool). cond t (apart_mark star) G) (other_eq o one.0 one.2) ∙ x.1)
+            | inl x ↦ let one = another_apart aparts are o x.0 in (apart one.0, one.1, ap (λ (t : Bool). cond t (apart_mark star) G) (ne_eqb o one.0 one.2) ∙ x.1)
             | inr x ↦ (other, other_is.0 x.0, x.1)
           ]
         ]
@@ -261,10 +259,10 @@ module _ (star : Star) (center from to : ℕ) (places : List ℕ) (sets : List P
       has_spoke (apart x) w = elim (cases_eq o x) [
         | inl e ↦
             let w_o : Works (apart o) = subst (λ (y : ℕ). Works (apart y)) (sym e) w in
-            subst (λ (t : Bool). has (spoke_left star aparts rests others (left o) o) (cond t (apart_mark star) G) ≡ true) (sym (same_eq o x e))
+            subst (λ (t : Bool). has (spoke_left star aparts rests others (left o) o) (cond t (apart_mark star) G) ≡ true) (sym (eq-eqb o x e))
             (spoke_left_apart star aparts rests others (left o) o (apart_here aparts are o w_o) (apart_has o w_o))
         | inr ne ↦
-            subst (λ (t : Bool). has (spoke_left star aparts rests others (left o) o) (cond t (apart_mark star) G) ≡ true) (sym (other_eq o x ne))
+            subst (λ (t : Bool). has (spoke_left star aparts rests others (left o) o) (cond t (apart_mark star) G) ≡ true) (sym (ne_eqb o x ne))
             (spoke_left_beside star aparts rests others (left o) o (or_right rests (may_another aparts o) (apart_another aparts are x o w ne)))
       ]
       has_spoke rest w = spoke_left_beside star aparts rests others (left o) o (or_left rests (may_another aparts o) (rest_is.1 w))
@@ -294,9 +292,9 @@ module _ (star : Star) (center from to : ℕ) (places : List ℕ) (sets : List P
     -- Some row works exactly where something is left.
     pub star_some : (b : Bool) → b ≡ (rests || (others || may_some aparts)) → IsTrue b ↔ ((kind : Kind) × Works kind)
     star_some b same = (
-      λ t. elim (either rests (others || may_some aparts) (sym same ∙ t)) [
+      λ t. elim (or_cases rests (others || may_some aparts) (sym same ∙ t)) [
         | inl x ↦ (rest, rest_is.0 x)
-        | inr y ↦ elim (either others (may_some aparts) y) [
+        | inr y ↦ elim (or_cases others (may_some aparts) y) [
           | inl x ↦ (other, other_is.0 x)
           | inr x ↦ let one = some_apart aparts are x in (apart one.0, one.1)
         ]

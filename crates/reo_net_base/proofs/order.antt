@@ -1,4 +1,3 @@
-pub mod Cases
 pub mod LinkLemmas
 pub mod QueueLemmas
 pub mod WalkLemmas

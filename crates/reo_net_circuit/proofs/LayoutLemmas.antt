@@ -1,5 +1,6 @@
 -- The tables of a circuit, a primitive at a time.
 use Rattle.std.proofs.Common.{◌≡◌, inl, inr, ℕ, ◌+◌, ◌-◌, ◌<◌, List, [], ◌∷◌, ◌++◌, length, map, get_or, refl, sym, ◌∙◌, arith, below_more}
+use Rattle.std.proofs.lemmas.Bool.{cases_lt}
 use Rattle.std.specs.List.{range_with_len}
 use Rattle.std.proofs.Math.Seq.{get_or-append_seam}
 use Rattle.std.proofs.lemmas.List.{length-append, get_or_append_left, get_or-append_right, get_or_default}
@@ -7,9 +8,8 @@ use Rattle.std.proofs.lemmas.List.FromFn.{get_or-map-range_with_len, length-map-
 use Rattle.reo_net_circuit.specs.declared.layout.SideOwner.{SideOwner}
 use Rattle.reo_net_base.specs.Behaviour.{Behaviour}
 use Rattle.reo_net_base.specs.Net.{first_side, behaviour_at}
-use Rattle.reo_net_circuit.proofs.Cases.{lt_cases}
 use Rattle.reo_net_circuit.specs.Layout.{AreOwners, AreFirsts, side_owner_at}
-use Rattle.reo_net_laws.proofs.Sides.{first_more}
+use Rattle.reo_net_circuit.proofs.Sides.{first_more}
 
 -- An owner that was there, or a new one.
 data Found (owners : List SideOwner) (p n k : ℕ) (there : SideOwner) : Type 0 where
@@ -19,7 +19,7 @@ data Found (owners : List SideOwner) (p n k : ℕ) (there : SideOwner) : Type 0 
 find : (owners : List SideOwner) (p n k : ℕ) (d : SideOwner) → k < length (owners ++ map (side_owner_at p) (range_with_len 0 n)) → Found owners p n k (get_or (owners ++ map (side_owner_at p) (range_with_len 0 n)) k d)
 find owners p n k d lt =
     let added : List SideOwner = map (side_owner_at p) (range_with_len 0 n) in
-    elim (lt_cases k (length owners)) [
+    elim (cases_lt k (length owners)) [
       | inl h ↦ old h (λ e. get_or_default owners k e d h ∙ sym (get_or_append_left owners added d k h))
       | inr h ↦
           let s_in : k - length owners < n = omega (arith, lt, length-append owners added, length-map-range_with_len {X = SideOwner} (side_owner_at p) 0 n) in

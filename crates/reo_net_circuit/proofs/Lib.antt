@@ -1,4 +1,3 @@
-pub mod Cases
 pub mod CountLemmas
 pub mod LayoutLemmas
 pub mod NetLemmas
@@ -10,3 +9,4 @@ pub mod ShapeLemmas
 pub mod StepLemmas
 pub mod TableLemmas
 pub mod WireLemmas
+pub mod Sides

@@ -6,7 +6,7 @@ use Rattle.reo_net_base.specs.Wired.{IsWired, IsEnd}
 use Rattle.reo_net_base.specs.Net.{Net, Side, all_sides, first_side, behaviour_at, side_of_end, side_at, row_at}
 use Rattle.reo_net_base.specs.Colouring.{AreRows}
 pub use Rattle.reo_net_laws.proofs.Joined.{one_at}
-use Rattle.reo_net_laws.proofs.Sides.{row_below, side_in, side_is, first_before as sides_before}
+use Rattle.reo_net_circuit.proofs.Sides.{row_below, side_in, side_is, first_before as sides_before}
 
 -- The side of an end is one of the sides.
 pub end_side_in : (net : Net) → IsWired net → (e : End) → IsEnd net.primitives e → side_at net e < length (all_sides net.primitives)

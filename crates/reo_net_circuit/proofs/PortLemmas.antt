@@ -1,5 +1,6 @@
 -- One primitive changes.
 use Rattle.std.proofs.Common.{◌≡◌, ◌≢◌, inl, inr, Option, ℕ, zero, suc, ◌<◌, List, [], ◌∷◌, length, map, get_or, set, refl, sym, ap, ◌∙◌, arith}
+use Rattle.std.proofs.lemmas.Bool.{cases_eq}
 use Rattle.std.proofs.lemmas.List.{length-map}
 use Rattle.reo_net_base.specs.Behaviour.{Behaviour}
 use Rattle.reo_net_base.specs.Lawful.{SameShape}
@@ -9,7 +10,6 @@ use Rattle.reo_net_base.specs.PortState.{PortState, port_state_at}
 use Rattle.reo_net_base.specs.Shapes.{SameShapes, SameWays}
 use Rattle.reo_net_base.specs.declared.port.Offer.{Offer}
 use Rattle.reo_net_circuit.specs.Offers.{OnlyPort}
-use Rattle.reo_net_circuit.proofs.Cases.{eq_cases}
 use Rattle.reo_net_circuit.proofs.ReshapeLemmas.{same_shape}
 
 pub change_is : {X : Type 0} (f : X → X) (xs : List X) (i : ℕ) (d : X) → i < length xs → set xs i (f (get_or xs i d)) ≡ change_at f xs i
@@ -78,11 +78,11 @@ module _ {P : Type 0} (port_state : P → PortState) (f : P → P) where
 -- Where only one port changes, and only its offer, the ways stay.
 pub only_ways : (old new : List PortState) (port : ℕ) (pending : Option Offer) → OnlyPort old new port pending → SameWays old new
 only_ways old new port pending only = record {
-  way = λ i. elim (eq_cases i port) [
+  way = λ i. elim (cases_eq i port) [
     | inl e ↦ rw e only.here.way
     | inr ne ↦ ap (λ (s : PortState). s.way) (only.others i ne)
   ];
-  accepts = λ i item. elim (eq_cases i port) [
+  accepts = λ i item. elim (cases_eq i port) [
     | inl e ↦ rw e (only.here.accepts item)
     | inr ne ↦ ap (λ (s : PortState). s.accepts item) (only.others i ne)
   ];

@@ -1,5 +1,6 @@
 -- The items at the mouths, as the primitives go on.
 use Rattle.std.proofs.Common.{◌≡◌, ◌≢◌, inl, inr, ℕ, zero, suc, ◌<◌, ◌≤◌, true, Option, None, List, [], ◌∷◌, length, get_or, set, refl, ap, sym, ◌∙◌, arith, get_or-set_other}
+use Rattle.std.proofs.lemmas.Bool.{cases_lt}
 use Rattle.std.proofs.lemmas.Bool.Decides.{nat_tests}
 use Rattle.std.proofs.lemmas.List.Sums.{passes_at_first}
 use Rattle.reo_values.specs.declared.value.Value.{Value}
@@ -7,7 +8,6 @@ use Rattle.reo_net_base.specs.declared.joint.Joint.{Joint}
 use Rattle.reo_net_base.specs.Behaviour.{Behaviour}
 use Rattle.reo_net_base.specs.Net.{Net, behaviour_at}
 use Rattle.reo_net_base.specs.Step.{is_mouth, mouth_of, taken_for}
-use Rattle.reo_net_circuit.proofs.Cases.{lt_cases}
 
 -- Two primitives have no joint at a mouth in common.
 pub mouth_test : (b : Behaviour) (i : ℕ) (j : Joint) → is_mouth b i j ≡ true → j.taker.primitive ≡ i
@@ -27,7 +27,7 @@ set_past (x ∷ xs) zero v h = absurd (omega arith)
 set_past (x ∷ xs) (suc i) v h = ap (λ ys. x ∷ ys) (set_past xs i v (omega arith))
 
 pub taken_kept : (net : Net) (items : List (Option Value)) (i k : ℕ) → length items ≡ length net.joints → i ≢ k → taken_for net (set items (mouth_of net i) None) k ≡ taken_for net items k
-taken_kept net items i k n ne = elim (lt_cases (mouth_of net i) (length items)) [
+taken_kept net items i k n ne = elim (cases_lt (mouth_of net i) (length items)) [
   | inl lt ↦ get_or-set_other items (mouth_of net i) (mouth_of net k) None None (λ e. mouths_apart net i k ne (omega arith) (sym e))
   | inr past ↦ ap (λ (xs : List (Option Value)). get_or xs (mouth_of net k) None) (set_past items (mouth_of net i) None past)
 ]

@@ -1,5 +1,6 @@
 -- Tables of the first joints that pass a test.
 use Rattle.std.proofs.Common.{◌≡◌, ◌≢◌, inl, inr, ℕ, zero, suc, ◌+◌, ◌<◌, ◌≤◌, ◌==◌, Bool, true, false, cond, List, length, get_or, set, replicate, refl, arith, below_more, get_or-set_same, get_or-set_other}
+use Rattle.std.proofs.lemmas.Bool.{cases_lt, cases_eq}
 use Rattle.std.specs.List.{position_or_len}
 use Rattle.std.proofs.lemmas.Bool.Decides.{nat_tests}
 use Rattle.std.proofs.lemmas.List.Sums.{position_or_len_is, fails_before_first}
@@ -9,7 +10,6 @@ use Rattle.reo_net_base.specs.Behaviour.{Behaviour}
 use Rattle.reo_net_base.specs.Net.{behaviour_at, end_of, is_at}
 use Rattle.reo_net_base.specs.Step.{is_mouth}
 use Rattle.reo_net_base.specs.Wired.{IsJoined}
-use Rattle.reo_net_circuit.proofs.Cases.{eq_cases, lt_cases}
 
 -- SideOwner m is the first of the first k joints that passes the test, or n.
 pub record IsFirstOf (test : Joint → Bool) (joints : List Joint) (k m : ℕ) : Type 0 where
@@ -70,7 +70,7 @@ mouths_more bs joints k j mouths lt at p_in firsts i i_lt =
     let p : ℕ = j.taker.primitive in
     let old : ℕ = get_or mouths p 0 in
     let new : ℕ = cond (is_mouth (behaviour_at bs p) p j) (cond (old == length joints) k old) old in
-    elim (eq_cases i p) [
+    elim (cases_eq i p) [
       | inl e ↦ rw e (rw (get_or-set_same mouths p new 0 p_in) (first_step (is_mouth (behaviour_at bs p) p) joints k j lt at old (firsts p p_in)))
       | inr ne ↦ rw (get_or-set_other mouths p i new 0 ne) (first_no (is_mouth (behaviour_at bs i) i) joints k j lt at (get_or mouths i 0) (firsts i i_lt) (mouth_not (behaviour_at bs i) i j ne))
     ]
@@ -105,7 +105,7 @@ ports_more joints k j old new lt at firsts noted i i_lt = rw (noted i i_lt) (fir
 pub joined_in : (joints : List Joint) (e : End) → IsJoined joints e → position_or_len (is_at e) joints < length joints
 joined_in joints e is =
     let d : Joint = record { giver = e; taker = e } in
-    elim (lt_cases (position_or_len (is_at e) joints) (length joints)) [
+    elim (cases_lt (position_or_len (is_at e) joints) (length joints)) [
       | inl lt ↦ lt
       | inr past ↦
           let before : is.joint < position_or_len (is_at e) joints = omega (arith, is.in_range, past) in

@@ -10,7 +10,8 @@ use Rattle.reo_net_base.specs.Net.{Net, Side, all_sides, no_side, row_count, beh
 use Rattle.reo_net_base.specs.Colouring.{AreRows, JointMatches, given_at, lets_in, ItemFits, IsColouring}
 use Rattle.reo_net_base.specs.Wired.{IsWired, IsOrder}
 use Rattle.reo_net_laws.specs.JamRows.{no_items}
-use Rattle.reo_net_laws.proofs.Sides.{row_below, below_or, side_in_range, row_in_table}
+use Rattle.std.proofs.lemmas.Bool.{cases_lt}
+use Rattle.reo_net_laws.proofs.Sides.{row_below, side_in_range, row_in_table}
 use Rattle.reo_net_laws.proofs.Items.{fits_one, given_fed, along_order}
 use Rattle.reo_net_laws.proofs.Orders.{no_joint, place_in, place_of, fed_before}
 use Rattle.reo_net_laws.proofs.Assignments.{fits_same}
@@ -152,7 +153,7 @@ are_rows_or [] [] = inl tt
 are_rows_or [] (r ∷ rs) = inr (λ h. h)
 are_rows_or (s ∷ ss) [] = inr (λ h. h)
 are_rows_or (s ∷ ss) (r ∷ rs) =
-    elim (below_or r (row_count s)) [
+    elim (cases_lt r (row_count s)) [
       | inr le ↦ inr (λ h. let lt = h.0 in absurd (omega (arith, le, lt)))
       | inl lt ↦ elim (are_rows_or ss rs) [
         | inl rest ↦ inl (lt, rest)

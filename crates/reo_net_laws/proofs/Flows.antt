@@ -1,9 +1,9 @@
 -- Where the first colouring jams and flows.
 use Rattle.std.proofs.Common.{◌≡◌, ◌≢◌, inl, inr, ℕ, ◌<◌, ◌≤◌, List, Option, Bool, true, false, not, length, get_or, refl, ap, sym, ◌∙◌, arith}
+use Rattle.std.proofs.lemmas.Bool.{and_parts, not-true}
 use Rattle.std.specs.Prelude.{◌&&◌}
 use Rattle.std.specs.declared.cmp.Ordering.TheVariants.{Less}
 use Rattle.reo_values.specs.declared.value.Value.{Value}
-use Rattle.reo_values.proofs.Truths.{and_left, and_right, not_true}
 use Rattle.reo_net_base.specs.declared.mark.Mark.TheVariants.{F}
 use Rattle.reo_net_base.specs.declared.joint.End.{End}
 use Rattle.reo_net_base.specs.Behaviour.{FlowsWithin}
@@ -64,15 +64,15 @@ module _ (net : Net) (wired : IsWired net) (turn : ℕ) (ps : List Position) (le
   calm p closed rows items is least b ys three k lt h =
       let q : ℕ → Bool = λ i. p i && jams net rows i in
       let q_closed = jams_closed net wired p closed rows items is in
-      let part = smaller net p (λ i. p i && q i) b ys (λ i g. and_left (p i) (q i) g) three.assignment in
-      let rest = smaller net p (λ i. p i && outside q i) rows items (λ i g. and_left (p i) (outside q i) g) is in
+      let part = smaller net p (λ i. p i && q i) b ys (λ i g. (and_parts (p i) (q i) g).0) three.assignment in
+      let rest = smaller net p (λ i. p i && outside q i) rows items (λ i g. (and_parts (p i) (outside q i) g).0) is in
       let n : length b ≡ length rows = part.one_row ∙ sym rest.one_row in
       let m : List ℕ = mixed q b rows in
       let smaller_class : (i : ℕ) (o : Owner net.primitives i) → i < length (all_sides net.primitives) → q i ≡ true → class_at i o b < class_at i o rows =
       λ i o i_lt g.
-      let p_i = and_left (p i) (jams net rows i) g in
+      let p_i = (and_parts (p i) (jams net rows i) g).0 in
       (wired.lawful o.primitive o.primitive_in).jam_last o.number (get_or b i 0) (get_or rows i 0) turn o.number_in
-      (plain_of net wired p closed b ys three.assignment i o i_lt p_i (three.no_jam i i_lt p_i)) (last_of net rows i o (and_right (p i) (jams net rows i) g)) in
+      (plain_of net wired p closed b ys three.assignment i o i_lt p_i (three.no_jam i i_lt p_i)) (last_of net rows i o ((and_parts (p i) (jams net rows i) g).1)) in
       elim (jams net rows k) as (λ t. jams net rows k ≡ t → t ≡ false) [
         | false ↦ λ e. refl
         | true ↦ λ e.
@@ -98,7 +98,7 @@ module _ (net : Net) (wired : IsWired net) (turn : ℕ) (ps : List Position) (le
       let each : (k : ℕ) (o : Owner net.primitives k) → k < length (all_sides net.primitives) → q k ≡ true → class_at k o b ≤ class_at k o rows =
       λ k o lt g.
       class_at_most (behaviour_at net.primitives o.primitive) (wired.lawful o.primitive o.primitive_in) o.number (get_or rows k 0) (get_or b k 0) turn o.number_in
-      (row_of net wired everywhere all rows items whole_a k o lt refl) (plain_of net wired everywhere all b ys whole_b k o lt refl (not_true (jams net b k) g)) (within k o) in
+      (row_of net wired everywhere all rows items whole_a k o lt refl) (plain_of net wired everywhere all b ys whole_b k o lt refl (not-true (jams net b k) g)) (within k o) in
       let k : ℕ = side_at net e in
       let o : Owner net.primitives k = owner_at net wired e is in
       let lt = side_in_range net wired e is in

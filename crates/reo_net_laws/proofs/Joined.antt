@@ -9,8 +9,7 @@ use Rattle.reo_net_base.specs.Wired.{IsWired, IsEnd}
 use Rattle.reo_net_laws.specs.Ends.{mark_in, from_in, EndsAreJoined, SourceIsTaken}
 use Rattle.reo_net_laws.proofs.Items.{end_is, end_same}
 use Rattle.reo_net_laws.proofs.Sides.{same_side_at}
-use Rattle.std.proofs.lemmas.Bool.{or_left, or_right}
-use Rattle.reo_values.proofs.Truths.{either}
+use Rattle.std.proofs.lemmas.Bool.{or_left, or_right, or_cases}
 
 -- The joint of an end, which is its giver or its taker.
 pub joint_of : (net : Net) → IsWired net → (e : End) → IsEnd net.primitives e
@@ -21,7 +20,7 @@ joint_of net wired e is =
       joined.in_range,
       λ d.
           let joint : Joint = get_or net.joints joined.joint d in
-          elim (either (end_eq joint.giver e) (end_eq joint.taker e) (joined.here d)) [
+          elim (or_cases (end_eq joint.giver e) (end_eq joint.taker e) (joined.here d)) [
             | inl g ↦ inl (end_is joint.giver e g)
             | inr t ↦ inr (end_is joint.taker e t)
           ],

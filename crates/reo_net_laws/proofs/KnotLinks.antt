@@ -2,10 +2,9 @@
 use Rattle.std.proofs.Common.{◌≡◌, ◌⊎◌, inl, inr, ℕ, ◌+◌, ◌<◌, ◌↔◌, List, [], ◌∷◌, ◌++◌, Bool, false, length, get_or, refl, ap, sym, ◌∙◌, arith, below_more, IsTrue, length-append}
 use Rattle.std.specs.Bool.{◌==◌}
 use Rattle.std.proofs.Math.Seq.{get_or-append_seam}
-use Rattle.std.proofs.lemmas.Bool.{cases_eq}
+use Rattle.std.proofs.lemmas.Bool.{cases_eq, eqb-true, eq-eqb}
 use Rattle.std.proofs.lemmas.Bool.Decides.{nat_tests}
 use Rattle.std.proofs.lemmas.List.{get_or_append_left}
-use Rattle.reo_values.proofs.Naturals.{eq_same, same_eq}
 use Rattle.reo_net_base.specs.declared.joint.Joint.{Joint}
 use Rattle.reo_net_base.specs.Net.{Net, side_at}
 use Rattle.reo_net_base.specs.Sides.{side_count}
@@ -22,7 +21,7 @@ same_from_linked : (net : Net) (n : ℕ) (labels : List ℕ) → ((j : ℕ) (d :
 same_from_linked net n labels along s t h =
     let label : ℕ = get_or labels s 0 in
     let same = h (λ x. get_or labels x 0 == label) (record { along = λ j d lt i. along j d lt i == label }) in
-    sym (eq_same (get_or labels t 0) label (sym same ∙ same_eq label label refl))
+    sym (eqb-true (get_or labels t 0) label (sym same ∙ eq-eqb label label refl))
 
 -- No joint links a side to another one.
 pub own_labels : (net : Net) (labels : List ℕ) → AreOwn labels (side_count net) → AreLabels net 0 labels

@@ -1,10 +1,9 @@
 -- Knots from labels, numbers and lists.
 use Rattle.std.proofs.Common.{◌≡◌, ℕ, ◌<◌, ◌↔◌, List, Bool, true, false, IsTrue, length, get_or, ap, sym, ◌∙◌, arith}
+use Rattle.std.proofs.lemmas.Bool.{and_parts, eqb-true, lt-ltb, eq-eqb, ltb-true}
 use Rattle.std.specs.Prelude.{◌==◌, ◌&&◌, nat_lt, filter}
 use Rattle.std.specs.List.{range_with_len}
 use Rattle.std.proofs.lemmas.List.{get_or_default}
-use Rattle.reo_values.proofs.Truths.{and_left, and_right}
-use Rattle.reo_values.proofs.Naturals.{eq_same, lt_true, same_eq, true_lt}
 use Rattle.reo_net_base.specs.declared.joint.Joint.{Joint}
 use Rattle.reo_net_base.specs.Net.{Net, side_at}
 use Rattle.reo_net_base.specs.Sides.{side_count}
@@ -34,22 +33,22 @@ numbered net labels numbers count are numbers_are =
 
 module _ (net : Net) (wired : IsWired net) (numbers : List ℕ) (count : ℕ) (are : AreNumbers (SameKnot net) (side_count net) numbers count) where
   in_at : (k s : ℕ) → s < side_count net → in_knot numbers k s ≡ (get_or numbers s 0 == k)
-  in_at k s lt = ap (λ (t : Bool). t && (get_or numbers s 0 == k)) (lt_true s (length numbers) (omega (arith, are.one_each)))
+  in_at k s lt = ap (λ (t : Bool). t && (get_or numbers s 0 == k)) (lt-ltb s (length numbers) (omega (arith, are.one_each)))
 
   below : (k s : ℕ) → in_knot numbers k s ≡ true → s < side_count net
   below k s h =
-      let lt = true_lt s (length numbers) (and_left (nat_lt s (length numbers)) (get_or numbers s 0 == k) h) in
+      let lt = ltb-true s (length numbers) ((and_parts (nat_lt s (length numbers)) (get_or numbers s 0 == k) h).0) in
       omega (arith, lt, are.one_each)
 
   number_is : (k s : ℕ) → in_knot numbers k s ≡ true → get_or numbers s 0 ≡ k
-  number_is k s h = eq_same (get_or numbers s 0) k (and_right (nat_lt s (length numbers)) (get_or numbers s 0 == k) h)
+  number_is k s h = eqb-true (get_or numbers s 0) k ((and_parts (nat_lt s (length numbers)) (get_or numbers s 0 == k) h).1)
 
   -- The sides of a number are a knot.
   pub knot : (k : ℕ) → k < count → IsKnot net (in_knot numbers k)
   knot k lt =
       let it = are.each k lt in
       record {
-        some = (it.0, it.1, in_at k it.0 it.1 ∙ same_eq (get_or numbers it.0 0) k it.2);
+        some = (it.0, it.1, in_at k it.0 it.1 ∙ eq-eqb (get_or numbers it.0 0) k it.2);
         closed = record {
           along = λ j d j_in.
               let giver = side_in_range net wired (get_or net.joints j d).giver (wired.givers j d j_in) in
@@ -70,12 +69,12 @@ module _ (net : Net) (wired : IsWired net) (numbers : List ℕ) (count : ℕ) (a
     says k e j = (
       λ h. record {
         in_range = h.0;
-        closes = (loops_are.exact j h.0).0 (and_left (get_or loops j false) (get_or numbers (side_at net (get_or net.joints j e).giver) 0 == k) h.1);
+        closes = (loops_are.exact j h.0).0 ((and_parts (get_or loops j false) (get_or numbers (side_at net (get_or net.joints j e).giver) 0 == k) h.1).0);
         here = λ d.
             ap (λ (x : Joint). get_or numbers (side_at net x.giver) 0) (get_or_default net.joints j d e h.0)
-            ∙ eq_same (get_or numbers (side_at net (get_or net.joints j e).giver) 0) k (and_right (get_or loops j false) (get_or numbers (side_at net (get_or net.joints j e).giver) 0 == k) h.1);
+            ∙ eqb-true (get_or numbers (side_at net (get_or net.joints j e).giver) 0) k ((and_parts (get_or loops j false) (get_or numbers (side_at net (get_or net.joints j e).giver) 0 == k) h.1).1);
       },
-      λ is. (is.in_range, both (get_or loops j false) (get_or numbers (side_at net (get_or net.joints j e).giver) 0 == k) ((loops_are.exact j is.in_range).1 is.closes) (same_eq (get_or numbers (side_at net (get_or net.joints j e).giver) 0) k (is.here e))),
+      λ is. (is.in_range, both (get_or loops j false) (get_or numbers (side_at net (get_or net.joints j e).giver) 0 == k) ((loops_are.exact j is.in_range).1 is.closes) (eq-eqb (get_or numbers (side_at net (get_or net.joints j e).giver) 0) k (is.here e))),
     )
       where
         both : (a b : Bool) → IsTrue a → b ≡ true → (a && b) ≡ true

@@ -1,8 +1,8 @@
 -- A mix of assignments.
 use Rattle.std.proofs.Common.{◌≡◌, ℕ, zero, suc, ◌<◌, List, [], ◌∷◌, Option, None, Bool, true, false, cond, length, get_or, refl, ap, sym, ◌∙◌, arith}
+use Rattle.std.proofs.lemmas.Bool.{and_parts, not-true}
 use Rattle.std.specs.Prelude.{◌&&◌}
 use Rattle.reo_values.specs.declared.value.Value.{Value}
-use Rattle.reo_values.proofs.Truths.{and_right, not_true}
 use Rattle.reo_net_base.specs.declared.joint.Joint.{Joint}
 use Rattle.reo_net_base.specs.Net.{Net, all_sides, side_at}
 use Rattle.reo_net_base.specs.Wired.{IsWired}
@@ -59,14 +59,14 @@ mix_in net wired p q p_closed q_closed a b xs ys is rest =
     let one_item : length items ≡ length net.joints = item_count net q net.joints xs ys is.one_item rest.one_item in
     halves net p q rows items
     (agreeing net wired (λ k. p k && q k) (both_closed net p q p_closed q_closed) rows a items xs is one_row one_item
-    (λ k lt h. mixed_true q a b k n (and_right (p k) (q k) h))
+    (λ k lt h. mixed_true q a b k n ((and_parts (p k) (q k) h).1))
     (λ j d lt h. item_at net q net.joints xs ys is.one_item rest.one_item j d lt
-    ∙ ap (λ (t : Bool). cond t (get_or xs j None) (get_or ys j None)) (and_right (p (side_at net (get_or net.joints j d).giver)) (q (side_at net (get_or net.joints j d).giver)) h)))
+    ∙ ap (λ (t : Bool). cond t (get_or xs j None) (get_or ys j None)) ((and_parts (p (side_at net (get_or net.joints j d).giver)) (q (side_at net (get_or net.joints j d).giver)) h).1)))
     (agreeing net wired (λ k. p k && outside q k) (both_closed net p (outside q) p_closed (outside_closed net q q_closed)) rows b items ys rest one_row one_item
-    (λ k lt h. mixed_false q a b k n (not_true (q k) (and_right (p k) (outside q k) h)))
+    (λ k lt h. mixed_false q a b k n (not-true (q k) ((and_parts (p k) (outside q k) h).1)))
     (λ j d lt h. item_at net q net.joints xs ys is.one_item rest.one_item j d lt
     ∙ ap (λ (t : Bool). cond t (get_or xs j None) (get_or ys j None))
-    (not_true (q (side_at net (get_or net.joints j d).giver)) (and_right (p (side_at net (get_or net.joints j d).giver)) (outside q (side_at net (get_or net.joints j d).giver)) h))))
+    (not-true (q (side_at net (get_or net.joints j d).giver)) ((and_parts (p (side_at net (get_or net.joints j d).giver)) (outside q (side_at net (get_or net.joints j d).giver)) h).1))))
 
 pub mix : MixIsColouring
 mix net wired inside closed a b xs ys is rest =

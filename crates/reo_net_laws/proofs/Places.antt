@@ -1,5 +1,6 @@
 -- Comparing by a list of places.
 use Rattle.std.proofs.Common.{◌≡◌, ◌⊎◌, inl, inr, ℕ, zero, suc, ◌+◌, ◌<◌, ◌≤◌, List, [], ◌∷◌, ◌++◌, Bool, true, false, cond, length, get_or, refl, ap, sym, ◌∙◌, arith, add-zero, zero-add, append_assoc}
+use Rattle.std.proofs.lemmas.Bool.{eq-eqb}
 use Rattle.std.specs.Bool.{◌==◌}
 use Rattle.std.proofs.lemmas.List.{get_or_default}
 use Rattle.std.proofs.lemmas.Bool.Decides.{nat_tests}
@@ -8,7 +9,6 @@ use Rattle.std.specs.declared.cmp.Ordering.{Ordering}
 use Rattle.std.specs.declared.cmp.Ordering.TheVariants.{Less, Equal, Greater}
 use Rattle.std.specs.Ordering.{nat_cmp, ordering_then}
 use Rattle.std.specs.Cmp.{nat_cmp_is}
-use Rattle.reo_values.proofs.Naturals.{same_eq}
 use Rattle.reo_net_base.specs.Net.{Net, Side, all_sides, no_side}
 use Rattle.reo_net_base.specs.First.{Position, key_at, is_leading, class_position, leading_positions, class_positions, row_positions, positions, order_by}
 use Rattle.reo_net_laws.specs.Keys.{within, AreInRange, ClassesAlwaysLead}
@@ -68,7 +68,7 @@ module _ (part : ℕ → ℕ) where
         | Less ↦ λ e g. (
           p.side,
           r.0,
-          ap (λ (t : Bool). order_by (cond t (p ∷ within (same_part (part p.side)) ps) (within (same_part (part p.side)) ps)) x y) (same_eq (part p.side) (part p.side) refl)
+          ap (λ (t : Bool). order_by (cond t (p ∷ within (same_part (part p.side)) ps) (within (same_part (part p.side)) ps)) x y) (eq-eqb (part p.side) (part p.side) refl)
               ∙ ap (λ (o : Ordering). ordering_then o (order_by (within (same_part (part p.side)) ps) x y)) e,
         )
         | Equal ↦ λ e g.

@@ -1,9 +1,9 @@
 -- Assignments of several sets.
 use Rattle.std.proofs.Common.{◌≡◌, ℕ, List, Option, Bool, true, false, not, length, get_or, refl, ap}
+use Rattle.std.proofs.lemmas.Bool.{eq-eqb}
 use Rattle.std.specs.Bool.{◌==◌}
 use Rattle.std.specs.Prelude.{◌&&◌}
 use Rattle.reo_values.specs.declared.value.Value.{Value}
-use Rattle.reo_values.proofs.Naturals.{same_eq}
 use Rattle.reo_net_base.specs.Net.{Net, all_sides, side_at}
 use Rattle.reo_net_base.specs.Colouring.{IsColouring}
 use Rattle.reo_net_laws.specs.Parts.{IsClosed, IsAssignment, outside}
@@ -78,6 +78,6 @@ parts_colouring net inside rows items is rest = whole net rows items (halves net
 
 pub each_part : EachPart
 each_part net part rows items = (
-  λ each. whole net rows items (gathered net everywhere rows items (each 0).one_row (each 0).one_item (λ s h. (λ t. part t == part s, same_eq (part s) (part s) refl, each (part s)))),
+  λ each. whole net rows items (gathered net everywhere rows items (each 0).one_row (each 0).one_item (λ s h. (λ t. part t == part s, eq-eqb (part s) (part s) refl, each (part s)))),
   λ col k. restricted net (λ s. part s == k) rows items col,
 )

@@ -6,7 +6,7 @@ use Rattle.std.proofs.lemmas.List.{take_more}
 use Rattle.std.proofs.lemmas.List.Concat.{get_or-flat_map}
 use Rattle.std.proofs.lemmas.List.Folds.{length-flat_map-take}
 use Rattle.std.proofs.lemmas.List.FromFn.{get_or-map-range_with_len, length-map-range_with_len}
-pub use Rattle.reo_values.proofs.Naturals.{lt_cases as below_or}
+use Rattle.std.proofs.lemmas.Bool.{cases_lt}
 use Rattle.reo_net_base.specs.declared.joint.End.{End}
 use Rattle.reo_net_base.specs.declared.mark.Mark.TheVariants.{F}
 use Rattle.reo_net_base.specs.Behaviour.{Behaviour, nothing, IsEndOf}
@@ -61,7 +61,7 @@ pub first_before : (bs : List Behaviour) (k n : ℕ) → k < n → n ≤ length 
 first_before bs k zero lt le = absurd (omega arith)
 first_before bs k (suc n) lt le =
     let more : first_side bs (suc n) ≡ first_side bs n + (behaviour_at bs n).sides = rw add-one at (first_more bs n (omega (arith, le))) in
-    elim (below_or k n) [
+    elim (cases_lt k n) [
       | inl earlier ↦ omega (arith, more, first_before bs k n earlier (omega (arith, le)))
       | inr late ↦
           let same : k ≡ n = omega (arith, lt, late) in
@@ -89,7 +89,7 @@ owner_of [] k lt = absurd (omega arith)
 owner_of (b ∷ bs) k lt =
     let count = side_count b in
     let total = length-append (sides_of b) (all_sides bs) in
-    elim (below_or k b.sides) [
+    elim (cases_lt k b.sides) [
       | inl here ↦ record { primitive = 0; number = k; primitive_in = omega arith; number_in = here; place = omega arith }
       | inr there ↦
           let o = owner_of bs (k - b.sides) (omega arith) in

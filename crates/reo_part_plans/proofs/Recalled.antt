@@ -1,5 +1,6 @@
 -- What is remembered is right in each state that has its key.
 use Rattle.std.proofs.Common.{◌≡◌, ◌∙◌, inl, inr, ℕ, zero, suc, ◌+◌, ◌-◌, ◌%◌, ◌<◌, ◌≤◌, Bool, true, false, List, [], ◌∷◌, ◌++◌, length, get_or, get_or-set_same, get_or-set_other, set, refl, ap, sym, subst, arith}
+use Rattle.std.proofs.lemmas.Bool.{cases_eq}
 use Rattle.std.specs.Prelude.{Contains, Option, Some, None, IsSome, Result, Ok, Err, OnOk, OnErr}
 use Rattle.std.proofs.lemmas.List.{get_or_default, length-set}
 use Rattle.std.proofs.lemmas.List.Elements.{Contains-get_or}
@@ -17,7 +18,6 @@ use Rattle.reo_net_base.specs.Shapes.{SameShapes, TreatAlike}
 use Rattle.reo_net_base.specs.Sides.{side_count}
 use Rattle.reo_net_base.specs.Wired.{IsWired, IsEnd, IsOrder}
 use Rattle.reo_net_base.proofs.Numbers.{few_places, one_table}
-use Rattle.reo_net_circuit.proofs.Cases.{eq_cases}
 use Rattle.reo_net_circuit.proofs.ReshapeLemmas.{first_same, side_same, order_same}
 use Rattle.reo_net_laws.specs.Alike.{AreAlike}
 use Rattle.reo_net_laws.specs.Parts.{IsClosed, IsClosedBelow}
@@ -413,7 +413,7 @@ module _ (net : Net) (wired : IsWired net) (knots : Knotted) (are : AreKnots net
       let here : AreRemembered net inside (get_or knots.sides k []) new.entries = subst (λ (xs : List ℕ). AreRemembered net inside xs new.entries) is right in
       record {
         one_each = length-set parts k new ∙ plans.one_each;
-        right = λ n d n_in. elim (eq_cases n k) [
+        right = λ n d n_in. elim (cases_eq n k) [
           | inl e ↦ subst (λ (n : ℕ). AreRemembered net (in_knot knots.numbers n) (get_or knots.sides n []) (get_or (set parts k new) n d).entries) (sym e)
               (subst (λ (x : RememberedPart). AreRemembered net inside (get_or knots.sides k []) x.entries) (sym (get_or-set_same parts k new d (omega (arith, lt, plans.one_each)))) here)
           | inr ne ↦ subst (λ (x : RememberedPart). AreRemembered net (in_knot knots.numbers n) (get_or knots.sides n []) x.entries) (sym (get_or-set_other parts k n new d ne)) (plans.right n d n_in)

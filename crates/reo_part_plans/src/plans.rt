@@ -13,34 +13,41 @@ use crate::given::{are_given, deciding};
 use crate::looks::{Look, is_key, look_at_all};
 use crate::searching::find;
 use reo_flows::copy_over;
-use reo_net_base::Primitive;
+use reo_net_base::{Form, Primitive};
 use reo_net_circuit::Circuit;
 use reo_planning::{PartOf, Planning};
 use reo_values::{List, NoMemory};
 use std::alloc::Global;
 use std::marker::Model;
 
-/// The most entries of a part.
+/// The most entries of a part without mergers.
 const MOST: usize = 256;
 
-/// The most looks and items that the entries of a part have together.
+/// The most looks and items that the entries of a part without mergers have together.
 const ROOM: usize = 65_536;
 
-/// How many times more nothing may be found of a part than something, before it rests.
-const TRIES: u32 = 176;
+/// The same of any part.
+const MOST_ROOM: usize = 1_048_576;
+
+/// How many times more nothing may be found of a part without mergers than something, before it
+/// rests.
+const TRIES: usize = 176;
 
 /// How many times a part that rests is asked for, before it begins again.
-const REST: u32 = 4_096;
+const REST: usize = 4_096;
 
 /// What is remembered of a part: entries, for each the one that came after it the last time, the
 /// one that came last, and how many times more nothing was found than something. A part rests while
 /// these are too many: then it has no entries, and each time that it is asked for is counted too.
+/// How many are too many follows the greatest merger of the part, since it takes so many rounds
+/// until the merger begins again with the same input.
 #[derive(Drop)]
 pub struct RememberedPart {
     pub(crate) entries: List<RememberedRows>,
     pub(crate) after: List<usize>,
     pub(crate) last: usize,
-    pub(crate) misses: u32,
+    pub(crate) misses: usize,
+    pub(crate) inputs: usize,
 }
 
 /// The rows of the first assignments of parts, remembered by the states of the parts, each for as
@@ -65,6 +72,23 @@ impl Model for Remembered {
     ghost view = { λ p. p.parts };
 }
 
+/// How many inputs the greatest merger has among some sides, or 0 where there is none.
+fn most_inputs<P: Primitive>(circuit: &Circuit<P>, sides: &[usize]) -> usize
+    requires { (m : ℕ) → m < length sides.now
+        → slice_index sides.now m < side_count (net_of P.behaviour circuit.now) }
+{
+    circuit.known();
+    let mut most = 0;
+    for index in 0..sides.len() {
+        let owner = circuit.owner(sides[index]);
+        let form = circuit.primitive(owner.primitive).form(owner.side);
+        if let Some(Form::Merging(branches)) = form {
+            most = branches.count.max(most);
+        }
+    }
+    most
+}
+
 impl RememberedPart {
     /// Of which nothing is remembered yet.
     fn new(alloc: Global) -> RememberedPart
@@ -75,12 +99,23 @@ impl RememberedPart {
             after: List::new(alloc),
             last: 0,
             misses: 0,
+            inputs: 0,
         }
+    }
+
+    /// How many rounds of the greatest merger are waited for.
+    fn turns(&self) -> usize {
+        self.inputs.saturating_mul(2)
+    }
+
+    /// How many times more nothing may be found than something, before the part rests.
+    fn tries(&self) -> usize {
+        TRIES.saturating_add(self.turns())
     }
 
     /// Whether nothing is remembered of it for now.
     fn is_resting(&self) -> bool {
-        self.misses >= TRIES
+        self.misses >= self.tries()
     }
 
     /// Forgets all entries.
@@ -96,7 +131,7 @@ impl RememberedPart {
         ensures { self.new.entries ≡ [] }
     {
         self.forget();
-        self.misses = TRIES;
+        self.misses = self.tries();
     }
 
     /// Notes that nothing was found. A part with too many of these rests, and one that has rested
@@ -104,20 +139,25 @@ impl RememberedPart {
     fn miss(&mut self)
         ensures { StayOrGo self.old.entries self.new.entries }
     {
+        let tries = self.tries();
         self.misses = self.misses.saturating_add(1);
-        if self.misses == TRIES {
+        if self.misses == tries {
             self.forget();
-        } else if self.misses >= TRIES + REST {
+        } else if self.misses >= tries.saturating_add(REST) {
             self.misses = 0;
         }
     }
 
-    /// Forgets all entries where one more of so many looks and items is too much.
-    fn make_room(&mut self, size: usize)
+    /// Forgets all entries where one more of so many looks and items is too much. The greatest
+    /// merger of the part has so many inputs.
+    fn make_room(&mut self, inputs: usize, size: usize)
         ensures { StayOrGo self.old.entries self.new.entries }
     {
+        self.inputs = inputs;
         let count = self.entries.len();
-        if count >= MOST || count.saturating_mul(size) >= ROOM {
+        let most = MOST.saturating_add(self.turns());
+        let room = ROOM.max(self.turns().saturating_mul(size)).min(MOST_ROOM);
+        if count >= most || count.saturating_mul(size) >= room {
             self.forget();
         }
     }
@@ -336,8 +376,9 @@ impl Remembered {
             flowing: joints,
             choices,
         };
+        let inputs = most_inputs(planning.circuit, sides);
         let plans = self.parts.at_mut(part.number);
-        plans.make_room(size);
+        plans.make_room(inputs, size);
         plans.add(entry)
     }
 }

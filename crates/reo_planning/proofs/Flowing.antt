@@ -1,10 +1,10 @@
 -- Whether something flows in a part, by its joints or by rows that are the same there.
 use Rattle.std.proofs.Common.{◌≡◌, ◌≢◌, ◌∙◌, inl, inr, ℕ, zero, suc, ◌<◌, Bool, true, false, cond, not, List, [], ◌∷◌, length, get_or, refl, ap, sym, subst, arith}
+use Rattle.std.proofs.lemmas.Bool.{both_ways}
 use Rattle.std.specs.Prelude.{filter, ◌==◌}
 use Rattle.std.proofs.lemmas.Bool.Decides.{nat_tests}
 use Rattle.std.proofs.lemmas.List.Elements.{Contains-get_or}
 use Rattle.std.proofs.lemmas.List.{get_or_default}
-use Rattle.reo_values.proofs.Truths.{not_both}
 use Rattle.reo_net_base.specs.declared.mark.Mark.TheVariants.{F}
 use Rattle.reo_net_base.specs.declared.joint.End.{End}
 use Rattle.reo_net_base.specs.Behaviour.{Behaviour}
@@ -44,7 +44,7 @@ some_long x xs = grind (arith, nat_tests)
 module _ (net : Net) (wired : IsWired net) (inside : ℕ → Bool) (joints : List ℕ) (are : AreJointsOf net inside joints) (rows : List ℕ) where
   -- Nothing flows where none of them does.
   none_flow : IsClosed net inside → RowsFit net rows → ((m : ℕ) → m < length joints → flows_by net rows (get_or joints m 0) ≡ false) → TellsFlow net inside rows false
-  none_flow closed fit none = record { still = λ _. still; flows = λ e. absurd (not_both false refl e) }
+  none_flow closed fit none = record { still = λ _. still; flows = λ e. absurd (both_ways false refl e) }
     where
       giver_not : (j : ℕ) → j < length net.joints → inside (side_at net (giver_of net j)) ≡ true → mark_at net rows (giver_of net j) ≢ F
       giver_not j lt here =
@@ -66,7 +66,7 @@ module _ (net : Net) (wired : IsWired net) (inside : ℕ → Bool) (joints : Lis
   -- Something flows where some of them does.
   one_flows : (m : ℕ) → m < length joints → flows_by net rows (get_or joints m 0) ≡ true → TellsFlow net inside rows true
   one_flows m lt flows = record {
-    still = λ e. absurd (not_both true e refl);
+    still = λ e. absurd (both_ways true e refl);
     flows = λ _.
         let is = (are.exact (get_or joints m 0)).0 (Contains-get_or joints m 0 lt) in
         record { end = giver_of net (get_or joints m 0); is_end = wired.givers (get_or joints m 0) no_joint is.0; here = is.1; flows = mark_flows (mark_at net rows (giver_of net (get_or joints m 0))) flows };

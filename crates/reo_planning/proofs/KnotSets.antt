@@ -5,13 +5,11 @@ use Rattle.reo_net_base.specs.Net.{Net}
 use Rattle.reo_net_base.specs.Sides.{side_count}
 use Rattle.reo_net_laws.specs.Parts.{SameKnot}
 use Rattle.reo_net_laws.specs.Knots.{AreNumbers, in_knot}
-use Rattle.std.proofs.lemmas.Bool.{false_from_ne_true as not_true}
-use Rattle.reo_values.proofs.Truths.{and_left, and_right}
-use Rattle.reo_values.proofs.Naturals.{eq_same, true_lt}
+use Rattle.std.proofs.lemmas.Bool.{false_from_ne_true as not_true, and_parts, eqb-true, ltb-true}
 
 -- A side of a part has its number.
 pub number_is : (numbers : List ℕ) (k s : ℕ) → in_knot numbers k s ≡ true → get_or numbers s 0 ≡ k
-number_is numbers k s h = eq_same (get_or numbers s 0) k (and_right (nat_lt s (length numbers)) (get_or numbers s 0 == k) h)
+number_is numbers k s h = eqb-true (get_or numbers s 0) k ((and_parts (nat_lt s (length numbers)) (get_or numbers s 0 == k) h).1)
 
 -- A side of a part is in no other part.
 pub elsewhere : (numbers : List ℕ) (k m s : ℕ) → in_knot numbers k s ≡ true → m ≢ k → in_knot numbers m s ≡ false
@@ -21,6 +19,6 @@ module _ (net : Net) (numbers : List ℕ) (count : ℕ) (are : AreNumbers (SameK
   -- The sides of a part are sides of the circuit.
   pub below : (k s : ℕ) → in_knot numbers k s ≡ true → s < side_count net
   below k s h =
-      let lt = true_lt s (length numbers) (and_left (nat_lt s (length numbers)) (get_or numbers s 0 == k) h) in
+      let lt = ltb-true s (length numbers) ((and_parts (nat_lt s (length numbers)) (get_or numbers s 0 == k) h).0) in
       let n = are.one_each in
       omega (arith, lt, n)

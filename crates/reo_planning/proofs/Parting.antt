@@ -1,11 +1,10 @@
 -- One part more has the rows of its first assignment.
 use Rattle.std.proofs.Common.{◌≡◌, ◌∙◌, inl, inr, ℕ, ◌+◌, ◌<◌, ◌≤◌, ◌≢◌, Bool, true, List, length, get_or, refl, ap, sym, subst, arith}
+use Rattle.std.proofs.lemmas.Bool.{and_parts, cases_eq}
 use Rattle.std.specs.Prelude.{nat_le}
 use Rattle.std.proofs.lemmas.Bool.Decides.{nat_tests}
-use Rattle.reo_values.proofs.Truths.{and_left, and_right}
 use Rattle.reo_net_base.specs.Net.{Net}
 use Rattle.reo_net_base.specs.Sides.{side_count}
-use Rattle.reo_net_circuit.proofs.Cases.{eq_cases}
 use Rattle.reo_net_laws.specs.Sublists.{part_rows}
 use Rattle.reo_net_laws.specs.Knots.{Knotted, AreKnots, in_knot, knot_count}
 use Rattle.reo_weights.specs.still.Joining.{HasFirst}
@@ -28,7 +27,7 @@ within_more less more net inside le is = record { narrow = is.narrow; weight = i
 
 fits : (kept : Kept) (budget k : ℕ) → serves kept budget k ≡ true → kept.budget ≤ budget
 fits kept budget k h =
-    let le : nat_le kept.budget budget ≡ true = and_left (nat_le kept.budget budget) (is_settled kept k) h in
+    let le : nat_le kept.budget budget ≡ true = (and_parts (nat_le kept.budget budget) (is_settled kept k) h).0 in
     grind (arith, nat_tests)
 
 module _ (budget : ℕ) (net : Net) (knots : Knotted) (are : AreKnots net knots) (turn k : ℕ) (lt : k < knot_count knots) where
@@ -65,7 +64,7 @@ module _ (budget : ℕ) (net : Net) (knots : Knotted) (are : AreKnots net knots)
       → ((s : ℕ) → in_knot knots.numbers k s ≡ true → get_or old s 0 ≡ get_or kept.rows s 0)
       → IsPartPlanned budget net knots turn k old old
   served kept old is serve here =
-      let known = is.known k lt (and_right (nat_le kept.budget budget) (is_settled kept k) serve) in
+      let known = is.known k lt ((and_parts (nat_le kept.budget budget) (is_settled kept k) serve).1) in
       record {
         one_each = refl;
         within = within_more kept.budget budget net (in_knot knots.numbers k) (fits kept budget k serve) known.within;
@@ -105,11 +104,11 @@ pub planned_more : (budget : ℕ) (net : Net) (knots : Knotted) (turn n : ℕ) (
 planned_more budget net knots turn n from rows new far more = record {
   planned = record {
     one_row = more.one_each ∙ far.planned.one_row;
-    within = λ k lt. elim (eq_cases k n) [
+    within = λ k lt. elim (cases_eq k n) [
       | inl e ↦ subst (λ (m : ℕ). IsWithin budget net (in_knot knots.numbers m)) (sym e) more.within
       | inr ne ↦ far.planned.within k (omega arith)
     ];
-    firsts = λ k lt. elim (eq_cases k n) [
+    firsts = λ k lt. elim (cases_eq k n) [
       | inl e ↦ subst (λ (m : ℕ). HasFirst net knots.numbers turn new m) (sym e) more.first
       | inr ne ↦ first_still budget net knots turn n k rows new ne more (far.planned.firsts k (omega arith))
     ];

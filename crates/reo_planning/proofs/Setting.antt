@@ -1,8 +1,7 @@
 -- Flags that are set or cleared.
 use Rattle.std.proofs.Common.{◌≡◌, ◌∙◌, inl, inr, ℕ, zero, suc, ◌<◌, Bool, true, false, List, [], ◌∷◌, length, get_or, set, refl, ap, sym, get_or-set_same}
-use Rattle.std.proofs.lemmas.Bool.{cases_Bool}
+use Rattle.std.proofs.lemmas.Bool.{cases_Bool, both_ways}
 use Rattle.std.proofs.lemmas.List.{length-set}
-use Rattle.reo_values.proofs.Truths.{not_both}
 use Rattle.reo_planning.specs.declared.kept.Kept.{Kept}
 use Rattle.reo_planning.specs.Unsettling.{AreFewer}
 
@@ -18,7 +17,7 @@ clear_still (f ∷ fs) (suc i) (suc k) h = clear_still fs i k h
 pub set_before : (flags : List Bool) (i k : ℕ) → get_or (set flags i false) k false ≡ true → get_or flags k false ≡ true
 set_before flags i k h = elim (cases_Bool (get_or flags k false)) [
   | inl yes_ ↦ yes_
-  | inr not ↦ absurd (not_both (get_or (set flags i false) k false) (clear_still flags i k not) h)
+  | inr not ↦ absurd (both_ways (get_or (set flags i false) k false) (clear_still flags i k not) h)
 ]
 
 -- Nothing has changed.

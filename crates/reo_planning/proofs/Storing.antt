@@ -1,12 +1,10 @@
 -- Parts that are marked when rows are stored.
 use Rattle.std.proofs.Common.{◌≡◌, ◌≢◌, ◌∙◌, inl, inr, ℕ, ◌+◌, ◌<◌, ◌≤◌, Bool, true, false, List, length, get_or, set, refl, ap, sym, subst, arith, get_or-set_same, get_or-set_other}
-use Rattle.std.proofs.lemmas.Bool.{cases_Bool, cases_lt}
+use Rattle.std.proofs.lemmas.Bool.{cases_Bool, cases_lt, both_ways, cases_eq}
 use Rattle.std.proofs.lemmas.List.{length-set}
-use Rattle.reo_values.proofs.Truths.{not_both}
 use Rattle.reo_flags.specs.Next.{IsNext}
 use Rattle.reo_net_base.specs.Net.{Net}
 use Rattle.reo_net_base.specs.Wired.{IsWired, IsOrder}
-use Rattle.reo_net_circuit.proofs.Cases.{eq_cases}
 use Rattle.reo_net_laws.proofs.OneFirst.{one_inside}
 use Rattle.reo_net_laws.specs.Knots.{Knotted, AreKnots, in_knot, knot_count}
 use Rattle.reo_planning.specs.declared.kept.Kept.{Kept}
@@ -24,18 +22,18 @@ module _ (net : Net) (knots : Knotted) (rows : List ℕ) where
       kept = far.kept;
       one_each = length-set now.settled n true ∙ far.one_each;
       one_mark = length-set now.moving n flag ∙ far.one_mark;
-      settled = λ k lt. elim (eq_cases k n) [
+      settled = λ k lt. elim (cases_eq k n) [
         | inl e ↦ ap (λ (i : ℕ). get_or (set now.settled n true) i false) e ∙ get_or-set_same now.settled n true false settled_in
         | inr ne ↦ get_or-set_other now.settled n k true false ne ∙ far.settled k (omega (arith, lt, ne))
       ];
       rest = λ k le.
           let ne : k ≢ n = omega (arith, le) in
           get_or-set_other now.settled n k true false ne ∙ far.rest k (omega (arith, le));
-      stay = λ k was. elim (eq_cases k n) [
-        | inl e ↦ absurd (not_both (is_settled old k) (ap (is_settled old) e ∙ sym (far.rest n (omega arith)) ∙ is) was)
+      stay = λ k was. elim (cases_eq k n) [
+        | inl e ↦ absurd (both_ways (is_settled old k) (ap (is_settled old) e ∙ sym (far.rest n (omega arith)) ∙ is) was)
         | inr ne ↦ get_or-set_other now.moving n k flag true ne ∙ far.stay k was
       ];
-      told = λ k lt not. elim (eq_cases k n) [
+      told = λ k lt not. elim (cases_eq k n) [
         | inl e ↦ subst (λ (i : ℕ). TellsFlow net (in_knot knots.numbers i) rows (get_or (set now.moving n flag) i true)) (sym e)
             (subst (TellsFlow net (in_knot knots.numbers n) rows) (sym (get_or-set_same now.moving n flag true moving_in)) tells)
         | inr ne ↦ subst (TellsFlow net (in_knot knots.numbers k) rows) (sym (get_or-set_other now.moving n k flag true ne)) (far.told k (omega (arith, lt, ne)) not)
@@ -70,7 +68,7 @@ module _ (net : Net) (knots : Knotted) (rows : List ℕ) where
         stay = far.stay;
         told = λ k lt not. elim (cases_lt k n) [
           | inl low ↦ far.told k low not
-          | inr high ↦ absurd (not_both (is_settled now k) (far.rest k high ∙ not) (is.none_before k high lt))
+          | inr high ↦ absurd (both_ways (is_settled now k) (far.rest k high ∙ not) (is.none_before k high lt))
         ];
       }
 

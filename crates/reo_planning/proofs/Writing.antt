@@ -1,8 +1,8 @@
 -- Writing rows down at one side after another.
 use Rattle.std.proofs.Common.{◌≡◌, ℕ, ◌+◌, ◌<◌, Bool, true, false, ◌||◌, List, [], ◌∷◌, ◌++◌, length, get_or, take, set, refl, sym, ◌∙◌, subst, arith, get_or-set_same, get_or-set_other, add-one}
+use Rattle.std.proofs.lemmas.Bool.{eqb-true, eq-eqb}
 use Rattle.std.specs.Bool.{◌==◌}
 use Rattle.std.proofs.lemmas.List.{length-set}
-use Rattle.reo_values.proofs.Naturals.{eq_same, same_eq}
 use Rattle.reo_values.proofs.Sequences.{one_more}
 use Rattle.reo_net_laws.specs.Sublists.{part_rows}
 use Rattle.reo_propagate.specs.Queues.{among}
@@ -33,15 +33,15 @@ module _ (sides from old now : List ℕ) (side row : ℕ) (lt : side < length ol
   -- The row at a side that is among these, or is the new one.
   here_for : (s : ℕ) (t : Bool) → (side == s) ≡ t → s < length old → (among sides s || t) ≡ true → get_or (set now side row) s 0 ≡ get_or from s 0
   here_for s true e s_lt h =
-      let same : side ≡ s = eq_same side s e in
+      let same : side ≡ s = eqb-true side s e in
       subst (λ (k : ℕ). get_or (set now side row) k 0 ≡ get_or from k 0) same (get_or-set_same now side row 0 in_range ∙ is)
   here_for s false e s_lt h =
-      get_or-set_other now side s row 0 (λ (same : s ≡ side). let e2 = same_eq side s (sym same) in let wrong : true ≡ false = sym e2 ∙ e in cc)
+      get_or-set_other now side s row 0 (λ (same : s ≡ side). let e2 = eq-eqb side s (sym same) in let wrong : true ≡ false = sym e2 ∙ e in cc)
       ∙ w.here s s_lt (or_none (among sides s) h)
 
   other_for : (s : ℕ) → (among sides s || (side == s)) ≡ false → get_or (set now side row) s 0 ≡ get_or old s 0
   other_for s h =
-      get_or-set_other now side s row 0 (λ (same : s ≡ side). not_right (among sides s) (side == s) h (same_eq side s (sym same)))
+      get_or-set_other now side s row 0 (λ (same : s ≡ side). not_right (among sides s) (side == s) h (eq-eqb side s (sym same)))
       ∙ w.others s (not_left (among sides s) (side == s) h)
 
   -- The row of one more side is written down.

@@ -1,9 +1,9 @@
 -- Components to which nothing is to be done.
 use Rattle.std.proofs.Common.{◌≡◌, ◌∙◌, ◌+◌, ◌-◌, ◌^◌, ℕ, Bool, true, false, not, cond, min, Option, Some, None, List, [], ◌∷◌, refl, sym, ap, arith}
+use Rattle.std.proofs.lemmas.Bool.{and_parts, not-true}
 use Rattle.std.specs.Prelude.{is_some, nat_eq}
 use Rattle.std.specs.Option.{option_map_or}
 use Rattle.std.proofs.lemmas.Bool.Decides.{nat_tests}
-use Rattle.reo_values.proofs.Truths.{and_left, and_right, not_true}
 use Rattle.reo_players.specs.Written.{Task}
 use Rattle.reo_players.specs.Players.{Player, after, after_task, bound_of, first_port, one_more_seen, runs_out}
 use Rattle.reo_players.specs.Idle.{is_idle}
@@ -14,10 +14,10 @@ no_bound (Some n) e = absurd cc
 
 module _ (t : Task) (ts : List Task) (seen : ℕ) (idle : is_idle (record { rest = t ∷ ts; seen = seen }) ≡ true) where
   unbounded : is_some (bound_of t) ≡ false
-  unbounded = not_true (is_some (bound_of t)) (and_left (not (is_some (bound_of t))) (nat_eq seen 1) idle)
+  unbounded = not-true (is_some (bound_of t)) ((and_parts (not (is_some (bound_of t))) (nat_eq seen 1) idle).0)
 
   seen_once : seen ≡ 1
-  seen_once = let once : nat_eq seen 1 ≡ true = and_right (not (is_some (bound_of t))) (nat_eq seen 1) idle in grind (arith, nat_tests)
+  seen_once = let once : nat_eq seen 1 ≡ true = (and_parts (not (is_some (bound_of t))) (nat_eq seen 1) idle).1 in grind (arith, nat_tests)
 
   goes_on : after_task false seen (t ∷ ts) ≡ record { rest = t ∷ ts; seen = seen }
   goes_on =

@@ -1,11 +1,11 @@
 -- Components and what is marked of them.
 use Rattle.std.proofs.Common.{◌≡◌, ◌∙◌, ◌||◌, ◌&&◌, inl, inr, ℕ, zero, suc, ◌+◌, ◌<◌, ◌≤◌, Bool, true, false, List, [], ◌∷◌, length, map, set, get_or, replicate, refl, sym, ap, subst, arith}
+use Rattle.std.proofs.Math.Bool.{or-true, and-false}
 use Rattle.std.specs.Prelude.{nat_eq, nat_lt}
 use Rattle.std.specs.List.{list_any, list_all}
-use Rattle.std.proofs.lemmas.Bool.{cases_eq, cases_lt}
+use Rattle.std.proofs.lemmas.Bool.{cases_eq, cases_lt, not-true, not-false}
 use Rattle.std.proofs.lemmas.Bool.Decides.{nat_tests}
 use Rattle.std.proofs.lemmas.List.{ext_get_or, get_or-map, get_or-set_same, get_or-set_other, length-map, length-replicate, length-set, map-set}
-use Rattle.reo_values.proofs.Truths.{not_true, not_false, or_true, and_false}
 use Rattle.reo_flags.specs.Next.{IsNext}
 use Rattle.reo_players.specs.declared.marks.Pace.{Pace}
 use Rattle.reo_players.specs.declared.marks.Paces.{Paces}
@@ -57,7 +57,7 @@ module _ (f : Player → Bool) (ps : List Player) where
 any_here : (f : Player → Bool) (ps : List Player) (i : ℕ) → i < length ps → f (player_of ps i) ≡ true → list_any f ps ≡ true
 any_here f [] i lt is = absurd (omega arith)
 any_here f (p ∷ ps) zero lt is = ap (λ b. b || list_any f ps) is
-any_here f (p ∷ ps) (suc i) lt is = ap (λ b. f p || b) (any_here f ps i (omega arith) is) ∙ or_true (f p)
+any_here f (p ∷ ps) (suc i) lt is = ap (λ b. f p || b) (any_here f ps i (omega arith) is) ∙ or-true (f p)
 
 any_nowhere : (f : Player → Bool) (ps : List Player) → ((i : ℕ) → i < length ps → f (player_of ps i) ≡ false) → list_any f ps ≡ false
 any_nowhere f [] none = refl
@@ -70,7 +70,7 @@ all_everywhere f (p ∷ ps) each = ap (λ b. b && list_all f ps) (each 0 (omega 
 all_but : (f : Player → Bool) (ps : List Player) (i : ℕ) → i < length ps → f (player_of ps i) ≡ false → list_all f ps ≡ false
 all_but f [] i lt is = absurd (omega arith)
 all_but f (p ∷ ps) zero lt is = ap (λ b. b && list_all f ps) is
-all_but f (p ∷ ps) (suc i) lt is = ap (λ b. f p && b) (all_but f ps i (omega arith) is) ∙ and_false (f p)
+all_but f (p ∷ ps) (suc i) lt is = ap (λ b. f p && b) (all_but f ps i (omega arith) is) ∙ and-false (f p)
 
 module _ (ps : List Player) (flags : List Bool) (place : ℕ) where
   pub counting_is : flags ≡ map counts ps → IsNext true flags 0 place → nat_lt place (length ps) ≡ someone_counts ps
@@ -87,9 +87,9 @@ module _ (ps : List Player) (flags : List Bool) (place : ℕ) where
       let inside = next_in_range is_left ps flags 0 place are next in
       elim (cases_lt place (length ps)) [
         | inl lt ↦ let no : nat_eq place (length ps) ≡ false = grind (arith, nat_tests) in
-            no ∙ sym (all_but is_done ps place lt (not_true (is_done (player_of ps place)) (marked_here is_left ps flags 0 place are next lt)))
+            no ∙ sym (all_but is_done ps place lt (not-true (is_done (player_of ps place)) (marked_here is_left ps flags 0 place are next lt)))
         | inr ge ↦ let yes : nat_eq place (length ps) ≡ true = grind (arith, nat_tests) in
-            yes ∙ sym (all_everywhere is_done ps (λ i lt. not_false (is_done (player_of ps i)) (none_before is_left ps flags 0 place are next i (omega arith) (omega arith))))
+            yes ∙ sym (all_everywhere is_done ps (λ i lt. not-false (is_done (player_of ps i)) (none_before is_left ps flags 0 place are next i (omega arith) (omega arith))))
       ]
 
   pub awake_is : (from : ℕ) → flags ≡ map is_awake ps → IsNext true flags from place → IsNextAwake ps from place

@@ -1,8 +1,8 @@
 -- What a run keeps of its components stays right.
 use Rattle.std.proofs.Common.{◌≡◌, ◌≢◌, ◌∙◌, ◌||◌, ◌⊎◌, inl, inr, ⊎_elim, ℕ, suc, ◌+◌, ◌-◌, ◌^◌, ◌<◌, ◌≤◌, Bool, true, false, min, List, length, map, set, get_or, refl, sym, ap, subst, arith}
+use Rattle.std.proofs.Math.Bool.{or-true}
 use Rattle.std.proofs.lemmas.Bool.{cases_eq, cases_lt}
 use Rattle.std.proofs.lemmas.List.{get_or-map, get_or_default, get_or-set_same, get_or-set_other, length-map, length-set, map-set, get_or_past}
-use Rattle.reo_values.proofs.Truths.{or_true}
 use Rattle.reo_flags.specs.Next.{IsNext}
 use Rattle.reo_flags.specs.dues.Next.{IsNextDue}
 use Rattle.reo_players.specs.declared.marks.Pace.{Pace}
@@ -177,7 +177,7 @@ module _ (clock passed : ℕ) (xs : List Paced) (marks : Paces) (dues : List ℕ
           | inl less ↦
               let by = due.here less in
               let is : due_of y < 2 ^ 64 - 1 = omega (arith, by, soon, due_at place y lt y_is) in
-              ap (λ b. is_awake p || b) (counted place lt y y_is ∙ due_counts y is) ∙ or_true (is_awake p)
+              ap (λ b. is_awake p || b) (counted place lt y y_is ∙ due_counts y is) ∙ or-true (is_awake p)
           | inr ge ↦
               let end = due.in_range in
               let same : place ≡ awake = omega arith in

@@ -1,11 +1,11 @@
 -- Components by their clocks.
 use Rattle.std.proofs.Common.{◌≡◌, ◌≢◌, ◌∙◌, ◌||◌, ◌&&◌, inl, inr, ⊎_elim, ℕ, zero, suc, ◌+◌, ◌-◌, ◌^◌, ◌<◌, ◌≤◌, Bool, true, false, not, cond, min, List, [], ◌∷◌, length, map, set, get_or, replicate, Option, Some, None, refl, sym, ap, arith}
+use Rattle.std.proofs.Math.Bool.{and-false, or-true}
 use Rattle.std.specs.Prelude.{is_some, nat_eq, nat_lt}
 use Rattle.std.specs.Option.{option_map, option_map_or}
-use Rattle.std.proofs.lemmas.Bool.{cases_eq}
+use Rattle.std.proofs.lemmas.Bool.{cases_eq, or_cases, not-true, not-false, and_parts}
 use Rattle.std.proofs.lemmas.Bool.Decides.{nat_tests}
 use Rattle.std.proofs.lemmas.List.{ext_get_or, get_or-set_same, get_or-set_other, length-set}
-use Rattle.reo_values.proofs.Truths.{either, not_true, not_false, and_left, and_right, and_false, or_true}
 use Rattle.reo_script.specs.declared.scripts.action.Component.{Component}
 use Rattle.reo_players.specs.declared.pacing.Paced.{Paced}
 use Rattle.reo_players.specs.Written.{Task}
@@ -31,7 +31,7 @@ counted true seen n some =
 
 pub later_fresh : (n : ℕ) (p : Player) → nat_eq (later n p).seen 0 ≡ nat_eq p.seen 0
 later_fresh zero p = refl
-later_fresh (suc n) p = counted (waits p) p.seen n (λ is. not_true (nat_eq p.seen 0) (and_right (counts p) (not (nat_eq p.seen 0)) is))
+later_fresh (suc n) p = counted (waits p) p.seen n (λ is. not-true (nat_eq p.seen 0) ((and_parts (counts p) (not (nat_eq p.seen 0)) is).1))
 
 pub later_counts : (n : ℕ) (p : Player) → counts (later n p) ≡ counts p
 later_counts n p = ap (λ (ts : List Task). is_some (first_bound ts)) (later_rest n p)
@@ -48,7 +48,7 @@ not_waiting zero p idle = refl
 not_waiting (suc n) p idle = ap (λ b. record { rest = p.rest; seen = cond b (min (p.seen + suc n) most) p.seen }) idle
 
 awake_waiting : (p : Player) → waits p ≡ true → is_awake p ≡ false
-awake_waiting p is = ap (λ b. not (is_idle p || b)) is ∙ ap not (or_true (is_idle p))
+awake_waiting p is = ap (λ b. not (is_idle p || b)) is ∙ ap not (or-true (is_idle p))
 
 pub later_awake : (n : ℕ) (p : Player) → is_awake (later n p) ≡ is_awake p
 later_awake n p =
@@ -78,13 +78,13 @@ later_one (suc m) p = more_by p m (waits p) refl
 -- A round in which nothing of it flows and its bound does not run out is one round later.
 idle_waits : (rest : List Task) (seen : ℕ) → is_idle (record { rest = rest; seen = seen }) ≡ true → waits (record { rest = rest; seen = seen }) ≡ false
 idle_waits [] seen idle = refl
-idle_waits (t ∷ ts) seen idle = ap (λ b. b && not (nat_eq seen 0)) (not_true (is_some (bound_of t)) (and_left (not (is_some (bound_of t))) (nat_eq seen 1) idle))
+idle_waits (t ∷ ts) seen idle = ap (λ b. b && not (nat_eq seen 0)) (not-true (is_some (bound_of t)) ((and_parts (not (is_some (bound_of t))) (nat_eq seen 1) idle).0))
 
 waits_on : (rest : List Task) (seen : ℕ) → waits (record { rest = rest; seen = seen }) ≡ true → is_last (record { rest = rest; seen = seen }) ≡ false
     → after_task false seen rest ≡ later 1 (record { rest = rest; seen = seen })
 waits_on [] seen waiting last = absurd cc
 waits_on (t ∷ ts) seen waiting last =
-    let bounded : is_some (bound_of t) ≡ true = and_left (is_some (bound_of t)) (not (nat_eq seen 0)) waiting in
+    let bounded : is_some (bound_of t) ≡ true = (and_parts (is_some (bound_of t)) (not (nat_eq seen 0)) waiting).0 in
     let next : Player = record { rest = ts; seen = 0 } in
     let here : Player = record { rest = t ∷ ts; seen = one_more_seen t seen } in
     ap (λ b. cond b next here) last
@@ -92,12 +92,12 @@ waits_on (t ∷ ts) seen waiting last =
     ∙ sym (ap (λ b. record { rest = t ∷ ts; seen = cond b (min (seen + 1) most) seen }) waiting)
 
 asleep_is : (p : Player) → is_awake p ≡ false → (is_idle p || waits p) ≡ true
-asleep_is p asleep = not_false (is_idle p || waits p) asleep
+asleep_is p asleep = not-false (is_idle p || waits p) asleep
 
 pub goes_on : (p : Player) → is_awake p ≡ false → is_last p ≡ false → after false p ≡ later 1 p
 goes_on p asleep last =
     ⊎_elim (λ idle. idle_stays p idle ∙ sym (not_waiting 1 p (idle_waits p.rest p.seen idle))) (λ waiting. waits_on p.rest p.seen waiting last)
-    (either (is_idle p) (waits p) (asleep_is p asleep))
+    (or_cases (is_idle p) (waits p) (asleep_is p asleep))
 
 -- It is gone to in the round in which its bound runs out.
 seen_by : (n : ℕ) (p : Player) → (later n p).seen ≤ p.seen + n
@@ -115,7 +115,7 @@ not_yet : (bound : Option ℕ) (seen now as_of clock : ℕ) → (is_some bound &
     → option_map_or (λ n. nat_eq (now + 1) n) bound false ≡ false
 not_yet None seen now as_of clock waiting by behind due = absurd cc
 not_yet (Some n) seen now as_of clock waiting by behind due =
-    let some : nat_eq seen 0 ≡ false = not_true (nat_eq seen 0) waiting in
+    let some : nat_eq seen 0 ≡ false = not-true (nat_eq seen 0) waiting in
     let at : due_by (Some n) seen as_of ≡ min (as_of + (n - seen)) (2 ^ 64 - 2) = ap (λ b. option_map_or (λ n. min (as_of + n) (2 ^ 64 - 2)) (cond b None (Some (n - seen))) (2 ^ 64 - 1)) some in
     let less : now + 1 < n = omega (arith, at) in
     grind (arith, nat_tests)
@@ -124,7 +124,7 @@ idle_last : (rest : List Task) (seen now : ℕ) → is_idle (record { rest = res
 idle_last [] seen now idle = refl
 idle_last (t ∷ ts) seen now idle =
     ap (λ (o : Option ℕ). option_map_or (λ n. nat_eq (now + 1) n) o false)
-    (no_bound (bound_of t) (not_true (is_some (bound_of t)) (and_left (not (is_some (bound_of t))) (nat_eq seen 1) idle)))
+    (no_bound (bound_of t) (not-true (is_some (bound_of t)) ((and_parts (not (is_some (bound_of t))) (nat_eq seen 1) idle).0)))
 
 pub not_last : (x : Paced) (clock : ℕ) → x.as_of ≤ clock → is_awake x.player ≡ false → clock + 1 < due_of x → is_last (shown clock x) ≡ false
 not_last x clock behind asleep due =
@@ -132,7 +132,7 @@ not_last x clock behind asleep due =
     ap (λ (ts : List Task). option_map_or (λ n. nat_eq (now + 1) n) (first_bound ts) false) (later_rest (clock - x.as_of) x.player)
     ∙ ⊎_elim (λ idle. idle_last x.player.rest x.player.seen now idle)
     (λ waiting. not_yet (first_bound x.player.rest) x.player.seen now x.as_of clock waiting (seen_by (clock - x.as_of) x.player) behind due)
-    (either (is_idle x.player) (waits x.player) (asleep_is x.player asleep))
+    (or_cases (is_idle x.player) (waits x.player) (asleep_is x.player asleep))
 
 due_some : (bound : Option ℕ) (fresh : Bool) (seen as_of : ℕ) → option_map_or (λ n. min (as_of + n) (2 ^ 64 - 2)) (cond fresh None (option_map (λ n. n - seen) bound)) (2 ^ 64 - 1) < 2 ^ 64 - 1 → is_some bound ≡ true
 due_some bound true seen as_of lt = absurd (omega arith)
@@ -153,7 +153,7 @@ due_counts x lt = due_some (first_bound x.player.rest) (nat_eq x.player.seen 0) 
 never_before : (bound : Option ℕ) (seen as_of : ℕ) → (is_some bound && not (nat_eq seen 0)) ≡ true → due_by bound seen as_of ≤ 2 ^ 64 - 2
 never_before None seen as_of waiting = absurd cc
 never_before (Some n) seen as_of waiting =
-    let some : nat_eq seen 0 ≡ false = not_true (nat_eq seen 0) waiting in
+    let some : nat_eq seen 0 ≡ false = not-true (nat_eq seen 0) waiting in
     let at : due_by (Some n) seen as_of ≡ min (as_of + (n - seen)) (2 ^ 64 - 2) = ap (λ b. option_map_or (λ n. min (as_of + n) (2 ^ 64 - 2)) (cond b None (Some (n - seen))) (2 ^ 64 - 1)) some in
     omega (arith, at)
 
@@ -164,7 +164,7 @@ never_last x clock asleep never =
     ap (λ (ts : List Task). option_map_or (λ n. nat_eq (now + 1) n) (first_bound ts) false) (later_rest (clock - x.as_of) x.player)
     ∙ ⊎_elim (λ idle. idle_last x.player.rest x.player.seen now idle)
     (λ waiting. let soon = never_before (first_bound x.player.rest) x.player.seen x.as_of waiting in absurd (omega (arith, soon, never)))
-    (either (is_idle x.player) (waits x.player) (asleep_is x.player asleep))
+    (or_cases (is_idle x.player) (waits x.player) (asleep_is x.player asleep))
 
 no_due : (bound : Option ℕ) (fresh : Bool) (seen as_of : ℕ) → is_some bound ≡ false → option_map_or (λ n. min (as_of + n) (2 ^ 64 - 2)) (cond fresh None (option_map (λ n. n - seen) bound)) (2 ^ 64 - 1) ≡ 2 ^ 64 - 1
 no_due None true seen as_of without = refl
@@ -227,7 +227,7 @@ set-shown clock other xs i x lt same =
 -- At their first actions.
 pub first-shown : (clock : ℕ → ℕ) (cs : List Component) → each_shown clock (map paced_of cs) ≡ map beginning_of cs
 first-shown clock [] = refl
-first-shown clock (c ∷ cs) = λ i. not_waiting (clock 0 - 0) (beginning_of c) (and_false (counts (beginning_of c))) i ∷ first-shown (λ i. clock (suc i)) cs i
+first-shown clock (c ∷ cs) = λ i. not_waiting (clock 0 - 0) (beginning_of c) (and-false (counts (beginning_of c))) i ∷ first-shown (λ i. clock (suc i)) cs i
 
 pub first-due : (cs : List Component) → replicate (length (map paced_of cs)) (2 ^ 64 - 1) ≡ map due_of (map paced_of cs)
 first-due [] = refl

@@ -1,8 +1,8 @@
 -- The present action of a component, and how it goes on from it.
 use Rattle.std.proofs.Common.{◌≡◌, ◌∙◌, ◌+◌, ◌-◌, ◌^◌, ◌||◌, ◌&&◌, ℕ, Bool, true, false, not, cond, min, List, [], ◌∷◌, drop, Option, Some, None, refl, sym, ap, true≢false}
+use Rattle.std.proofs.Math.Bool.{or-false}
 use Rattle.std.specs.Prelude.{is_none, is_some, nat_eq}
 use Rattle.std.specs.Option.{option_map_or}
-use Rattle.reo_values.proofs.Truths.{or_false}
 use Rattle.reo_script.specs.declared.scripts.action.Action.{Action}
 use Rattle.reo_rules.specs.Lists.{first_of}
 use Rattle.reo_players.specs.declared.counter.Counter.{Counter}
@@ -32,7 +32,7 @@ awake_by None seen = not (nat_eq seen 1)
 awake_by (Some n) seen = nat_eq seen 0
 
 awake_at : (bound : Option ℕ) (seen : ℕ) → not ((not (is_some bound) && nat_eq seen 1) || (is_some bound && not (nat_eq seen 0))) ≡ awake_by bound seen
-awake_at None seen = ap not (or_false (nat_eq seen 1))
+awake_at None seen = ap not (or-false (nat_eq seen 1))
 awake_at (Some n) seen = elim (nat_eq seen 0) as (λ b. not (not b) ≡ b) [ true ↦ refl | false ↦ refl ]
 
 pub awake_is : (rest : List Task) → HasTask rest → (bound : Option ℕ) (seen : ℕ) → bound ≡ first_bound rest → is_awake (record { rest = rest; seen = seen }) ≡ awake_by bound seen

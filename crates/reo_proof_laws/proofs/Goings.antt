@@ -20,7 +20,8 @@ use Rattle.reo_rounds.specs.Ready.{ports_ready, ready, ready_net}
 use Rattle.reo_rounds.specs.RoundOn.{Suiting, RoundOn}
 use Rattle.reo_rounds.specs.Rules.{Rules}
 use Rattle.reo_rounds.specs.Stopping.{ending_by}
-use Rattle.reo_rounds.proofs.OrderLemmas.{KeepsShape, ready_order, round_order}
+use Rattle.reo_rounds.specs.Lasting.{KeepsShape}
+use Rattle.reo_rounds.proofs.OrderLemmas.{ready_order, round_order}
 use Rattle.reo_rounds.proofs.RoundLemmas.{round_exists}
 use Rattle.reo_runs.specs.Round.{State, Choosing, RoundOf, net_ready, advanced}
 use Rattle.reo_runs.specs.Run.{Place, EndsAs, place_after, firsts}

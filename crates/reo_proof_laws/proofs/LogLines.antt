@@ -1,12 +1,12 @@
 -- The text of a right log is that of whole lines.
 use Rattle.std.proofs.Common.{◌≡◌, ◌<◌, ◌^◌, ◌&&◌, ℕ, List, [], ◌∷◌, ◌++◌, Bool, true, not, nat_eq, map, refl, ◌∙◌, arith}
+use Rattle.std.proofs.lemmas.Bool.{and_parts}
 use Rattle.std.specs.Prelude.{codes}
 use Rattle.std.specs.List.{All}
 use Rattle.std.specs.Fmt.{decimal}
 use Rattle.std.proofs.lemmas.Bool.Decides.{nat_tests}
 use Rattle.std.proofs.lemmas.List.{append-nil}
 use Rattle.std.proofs.lemmas.List.Elements.{All-nil, All-cons, All-append, All-head, All-tail, All-weaker}
-use Rattle.reo_values.proofs.Truths.{and_right}
 use Rattle.reo_values.specs.decimals.Digits.{IsDigit}
 use Rattle.reo_values.proofs.decimals.Digits.{digits_of_decimal}
 use Rattle.reo_values.proofs.decimals.Fronts.{heads_apart}
@@ -48,7 +48,7 @@ head_apart b rest h e = grind (arith, nat_tests, h, e)
 
 in_line : (bs : List ℕ) → has_none bs ≡ true → All IsInLine bs
 in_line [] h = All-nil IsInLine
-in_line (b ∷ bs) h = All-cons IsInLine b bs (head_apart b (has_none bs) h) (in_line bs (and_right (not (nat_eq b 10)) (has_none bs) h))
+in_line (b ∷ bs) h = All-cons IsInLine b bs (head_apart b (has_none bs) h) (in_line bs ((and_parts (not (nat_eq b 10)) (has_none bs) h).1))
 
 both_in : (xs ys : List ℕ) → All IsInLine xs → All IsInLine ys → All IsInLine (xs ++ ys)
 both_in xs ys p q = All-append IsInLine xs ys p q

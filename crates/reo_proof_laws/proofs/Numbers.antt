@@ -1,8 +1,8 @@
 -- The numbers of the lines of a right log.
 use Rattle.std.proofs.Common.{◌≡◌, ℕ, zero, suc, ◌+◌, ◌*◌, ◌<◌, ◌≤◌, ◌^◌, ◌&&◌, ◌||◌, ◌==◌, not, true, false, cond, List, [], ◌∷◌, ◌++◌, length, get_or, refl, arith, length-append}
+use Rattle.std.proofs.lemmas.Bool.{and_parts}
 use Rattle.std.specs.List.{All}
 use Rattle.std.proofs.lemmas.List.Elements.{All-nil, All-cons, All-append}
-use Rattle.reo_values.proofs.Truths.{and_left}
 use Rattle.reo_net_base.specs.First.{is_leading, leading_positions, class_position, class_positions, row_positions, positions}
 use Rattle.reo_net_base.specs.Net.{Net, Side, all_sides}
 use Rattle.reo_net_base.specs.Sides.{side_count}
@@ -66,13 +66,13 @@ module _ (net : Net) (wired : IsWired net) (sized : IsSized net) (lists : Lists)
         omega (arith, may.in_range, sized.joints),
         value_numbered lists few j v (within j v may.is_live),
         omega (arith, side_below net wired j side may.in_range may.at_side, sides),
-      ) (branch_numbered allowed (without now j v) rest (λ i w h. within i w (and_left (now i w) (not ((i == j) && value_eq w v)) h)) branch)
+      ) (branch_numbered allowed (without now j v) rest (λ i w h. within i w ((and_parts (now i w) (not ((i == j) && value_eq w v)) h).0)) branch)
   branch_numbered allowed f lines within (empty now j is) =
       All-cons IsNumbered (Empty j) [] (omega (arith, is.in_range, sized.joints)) (All-nil IsNumbered)
   branch_numbered allowed f lines within (split now j pieces may count branches) =
       All-cons IsNumbered (Split j) (joined pieces) (omega (arith, may.in_range, sized.joints))
       (all_joined pieces (λ m lt.
-      branch_numbered allowed (alone now j (live_value lists now j m)) (get_or pieces m []) (λ i w h. within i w (and_left (now i w) (not (i == j) || value_eq w (live_value lists now j m)) h)) (branches m lt)))
+      branch_numbered allowed (alone now j (live_value lists now j m)) (get_or pieces m []) (λ i w h. within i w ((and_parts (now i w) (not (i == j) || value_eq w (live_value lists now j m)) h).0)) (branches m lt)))
 
   pub parts_numbered : (turn : ℕ) (given : List ℕ) (from : ℕ) (lines : List LogLine) → AreParts net turn given lists from lines → All IsNumbered lines
   parts_numbered turn given from lines (done n none) = All-nil IsNumbered

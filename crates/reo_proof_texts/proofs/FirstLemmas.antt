@@ -9,7 +9,8 @@ use Rattle.reo_trace.specs.declared.line.Ending.{Ending}
 use Rattle.reo_rounds.specs.Order.{HasOrder}
 use Rattle.reo_rounds.specs.Ready.{ready}
 use Rattle.reo_rounds.specs.Rules.{Rules}
-use Rattle.reo_rounds.proofs.OrderLemmas.{KeepsShape, ready_order, round_order}
+use Rattle.reo_rounds.specs.Lasting.{KeepsShape}
+use Rattle.reo_rounds.proofs.OrderLemmas.{ready_order, round_order}
 use Rattle.reo_rounds.proofs.RoundLemmas.{suits_also}
 use Rattle.reo_runs.specs.Round.{State, Choosing, RoundOf, net_ready}
 use Rattle.reo_runs.specs.Run.{Place, Leads, EndsAs, IsRun, place_after, firsts}

@@ -7,7 +7,8 @@ use Rattle.reo_players.specs.Offers.{offer_for}
 use Rattle.reo_trace_reader.specs.texts.Lines.{AreTold}
 use Rattle.reo_rounds.specs.Order.{HasOrder}
 use Rattle.reo_rounds.specs.Rules.{Rules}
-use Rattle.reo_rounds.proofs.OrderLemmas.{KeepsShape, round_order}
+use Rattle.reo_rounds.specs.Lasting.{KeepsShape}
+use Rattle.reo_rounds.proofs.OrderLemmas.{round_order}
 use Rattle.reo_runs.specs.Round.{State}
 use Rattle.reo_runs.specs.Run.{Place, EndsAs, place_after}
 use Rattle.reo_runs.specs.verdicts.Replays.{colourings}

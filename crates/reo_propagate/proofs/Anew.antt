@@ -1,10 +1,10 @@
 -- Setting flags anew.
 use Rattle.std.proofs.Common.{◌≡◌, ◌⊎◌, inl, inr, ℕ, ◌+◌, ◌<◌, Bool, true, false, List, [], length, get_or, set, refl, ap, sym, ◌∙◌, subst, arith, cond, below_more, get_or-set_same, get_or-set_other}
+use Rattle.std.proofs.lemmas.Bool.{eq-eqb}
 use Rattle.std.specs.Bool.{◌==◌}
 use Rattle.std.proofs.Common.{◌&&◌}
 use Rattle.std.proofs.lemmas.Bool.Decides.{eqb_tells}
 use Rattle.std.proofs.lemmas.List.{length-set}
-use Rattle.reo_values.proofs.Naturals.{same_eq}
 use Rattle.reo_net_base.specs.Net.{Net}
 use Rattle.reo_side_tables.specs.Marks.{IsJointOf}
 use Rattle.reo_rows.specs.RowFlags.{flag, AreAlikeTables}
@@ -21,7 +21,7 @@ put_true : (a b r p : ℕ) (was : Bool) → was ≡ true → cond ((r == a) && (
 put_true a b r p was h = elim ((r == a) && (p == b)) as (λ (t : Bool). cond t true was ≡ true) [ true ↦ refl | false ↦ h ]
 
 put_here : (a b : ℕ) (was : Bool) → cond ((a == a) && (b == b)) true was ≡ true
-put_here a b was = rw (same_eq a a refl, same_eq b b refl) refl
+put_here a b was = rw (eq-eqb a a refl, eq-eqb b b refl) refl
 
 -- No flag was set yet.
 pub row_none : (row : ℕ) (table : List (List Bool)) → IsRowSet row 0 table table

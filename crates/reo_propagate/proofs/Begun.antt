@@ -1,11 +1,10 @@
 -- The beginning of a search.
 use Rattle.std.proofs.Common.{◌≡◌, inl, inr, ℕ, zero, suc, ◌<◌, ◌+◌, Bool, true, List, [], length, get_or, replicate, refl, ap, sym, ◌∙◌, subst, arith}
-use Rattle.std.proofs.lemmas.Bool.{both_ways}
+use Rattle.std.proofs.lemmas.Bool.{both_ways, cases_lt}
 use Rattle.std.proofs.lemmas.List.{get_or_past, length-replicate}
 use Rattle.reo_values.specs.declared.value.Value.{Value}
 use Rattle.reo_net_base.specs.Net.{Net, all_sides, no_side, row_count}
 use Rattle.reo_net_base.specs.Sides.{side_count}
-use Rattle.reo_net_laws.proofs.Sides.{below_or}
 use Rattle.reo_net_circuit.specs.found_ends.Ends.{AreEnds}
 use Rattle.reo_joint_values.specs.declared.value.JointValue.{JointValue}
 use Rattle.reo_joint_values.specs.Values.{Names, Family}
@@ -33,7 +32,7 @@ all_live : (net : Net) (items : List (List Value)) (names : Names) (family : Fam
     → (side : ℕ) → ((row : ℕ) → row < length (get_or rows.live side []) → flag rows.live side row ≡ true) → AreLive net names family side rows
 all_live net items names family rows tables side all row works =
     let lt : row < row_count (get_or (all_sides net.primitives) side no_side) = works.in_table no_side in
-    elim (below_or side (side_count net)) [
+    elim (cases_lt side (side_count net)) [
       | inl there ↦ all row (omega (arith, lt, tables.width side there))
       | inr past ↦
           let none : row < row_count no_side = subst (λ x. row < row_count x) (get_or_past (all_sides net.primitives) side no_side past) lt in

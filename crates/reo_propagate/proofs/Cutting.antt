@@ -1,9 +1,8 @@
 -- Clearing flags.
 use Rattle.std.proofs.Common.{◌≡◌, ◌≢◌, ◌⊎◌, ◌↔◌, inl, inr, ℕ, ◌≤◌, Bool, true, false, not, ◌&&◌, List, [], length, refl, sym, ◌∙◌, subst, arith}
 use Rattle.std.specs.Bool.{◌==◌}
-use Rattle.std.proofs.lemmas.Bool.{cases_eq, both_ways, and_parts}
+use Rattle.std.proofs.lemmas.Bool.{cases_eq, both_ways, and_parts, eq-eqb, ne_eqb}
 use Rattle.std.proofs.lemmas.List.{get_or_past}
-use Rattle.reo_values.proofs.Naturals.{same_eq, other_eq}
 use Rattle.reo_rows.specs.RowFlags.{flag, AreAlikeTables}
 use Rattle.reo_rows.proofs.Clearing.{and_no, gone_of}
 use Rattle.reo_propagate.specs.declared.thinning.Loss.{Loss}
@@ -18,13 +17,13 @@ module _ (i p : ℕ) (old new : List (List Bool)) (is : IsCleared i p old new) w
   was_set k q h = (and_parts (flag old k q) (not ((k == i) && (q == p))) (sym (is k q) ∙ h)).0
 
   pub other_row : (k q : ℕ) → k ≢ i → flag new k q ≡ flag old k q
-  other_row k q ne = is k q ∙ and_no (flag old k q) (k == i) (q == p) (inl (other_eq k i ne))
+  other_row k q ne = is k q ∙ and_no (flag old k q) (k == i) (q == p) (inl (ne_eqb k i ne))
 
   pub other_place : (k q : ℕ) → q ≢ p → flag new k q ≡ flag old k q
-  other_place k q ne = is k q ∙ and_no (flag old k q) (k == i) (q == p) (inr (other_eq q p ne))
+  other_place k q ne = is k q ∙ and_no (flag old k q) (k == i) (q == p) (inr (ne_eqb q p ne))
 
   pub cleared : flag new i p ≡ false
-  cleared = is i p ∙ rw (same_eq i i refl, same_eq p p refl) (gone_of (flag old i p))
+  cleared = is i p ∙ rw (eq-eqb i i refl, eq-eqb p p refl) (gone_of (flag old i p))
 
 -- Past the last row no flag is set.
 pub no_flag : (table : List (List Bool)) (i p : ℕ) → length table ≤ i → flag table i p ≡ false

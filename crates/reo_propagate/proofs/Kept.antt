@@ -1,11 +1,9 @@
 -- Lists of values out of which those go that have lost their flags.
 use Rattle.std.proofs.Common.{◌≡◌, ◌↔◌, ◌⊎◌, inl, inr, ℕ, ◌+◌, ◌<◌, ◌≤◌, Bool, true, false, ◌&&◌, ◌||◌, List, [], length, get_or, take, refl, ap, sym, ◌∙◌, arith}
 use Rattle.std.specs.Bool.{◌==◌}
-use Rattle.std.proofs.lemmas.Bool.{cases_eq, cases_Bool, and_parts, or_left, or_right}
+use Rattle.std.proofs.lemmas.Bool.{cases_eq, cases_Bool, and_parts, or_left, or_right, eqb-true, eq-eqb, ne_eqb, cases_lt}
 use Rattle.std.proofs.lemmas.List.{get_or_past, take_more, take_all}
-use Rattle.reo_values.proofs.Naturals.{eq_same, same_eq, other_eq}
 use Rattle.reo_net_base.specs.Net.{Net}
-use Rattle.reo_net_laws.proofs.Sides.{below_or}
 use Rattle.reo_joint_values.specs.declared.value.JointValue.{JointValue}
 use Rattle.reo_joint_values.specs.Values.{giver_side}
 use Rattle.reo_side_tables.specs.Listing.{Lists}
@@ -17,7 +15,7 @@ use Rattle.reo_propagate.proofs.Among.{among_at, among_more}
 use Rattle.reo_propagate.specs.ListedSets.{in_set, listed, AreKept, HaveSome}
 
 eq_turned : (a b : ℕ) → (a == b) ≡ (b == a)
-eq_turned a b = elim (cases_eq a b) [ inl e ↦ same_eq a b e ∙ sym (same_eq b a (sym e)) | inr ne ↦ other_eq a b ne ∙ sym (other_eq b a (λ e. ne (sym e))) ]
+eq_turned a b = elim (cases_eq a b) [ inl e ↦ eq-eqb a b e ∙ sym (eq-eqb b a (sym e)) | inr ne ↦ ne_eqb a b ne ∙ sym (ne_eqb b a (λ e. ne (sym e))) ]
 
 past : (sets : List (List JointValue)) (j : ℕ) (v : JointValue) → length sets ≤ j → listed sets j v ≡ false
 past sets j v le = ap (λ (l : List JointValue). in_set l v) (get_or_past sets j [] le)
@@ -32,11 +30,11 @@ kept_less at alive old new kept j v h = elim (cases_Bool (at j)) [
 pub kept_as : (a b : ℕ → Bool) (alive : List (List Bool)) (old new : List (List JointValue)) → ((j : ℕ) → j < length old → a j ≡ b j) → AreKept a alive old new → AreKept b alive old new
 kept_as a b alive old new same kept = record {
   one_each = kept.one_each;
-  here = λ j v is. elim (below_or j (length old)) [
+  here = λ j v is. elim (cases_lt j (length old)) [
     | inl lt ↦ kept.here j v (same j lt ∙ is)
     | inr le ↦ past new j v (omega (arith, le, kept.one_each)) ∙ sym (ap (λ (x : Bool). x && family_of alive j v) (past old j v le))
   ];
-  other = λ j off. elim (below_or j (length old)) [
+  other = λ j off. elim (cases_lt j (length old)) [
     | inl lt ↦ kept.other j (same j lt ∙ off)
     | inr le ↦ let le_new : length new ≤ j = omega (arith, le, kept.one_each) in get_or_past new j [] le_new ∙ sym (get_or_past old j [] le)
   ];
@@ -118,7 +116,7 @@ module _ (net : Net) (side : ℕ) (joints : List ℕ) where
   first_all n le lists j lt = elim (cases_Bool (gives_at net side j)) [
     | inr off ↦ rw off (and_no (among (take n joints) j))
     | inl on ↦
-        let stands = lists.whole j (record { in_range = lt; here = inl (eq_same (giver_side net j) side on) }) in
+        let stands = lists.whole j (record { in_range = lt; here = inl (eqb-true (giver_side net j) side on) }) in
         let all : among joints j ≡ true = ap (among joints) (sym stands.2) ∙ among_at joints stands.0 stands.1 in
         rw (take_all n joints le, all) refl
   ]

@@ -1,10 +1,8 @@
 -- Sets of values as lists.
 use Rattle.std.proofs.Common.{◌≡◌, ◌≢◌, ◌↔◌, inl, inr, ℕ, zero, suc, ◌+◌, ◌<◌, ◌≤◌, Bool, true, false, ◌&&◌, ◌||◌, cond, List, [], ◌∷◌, ◌++◌, length, get_or, take, set, refl, ap, sym, ◌∙◌, arith, get_or-set_other}
 use Rattle.std.specs.Bool.{◌==◌}
-use Rattle.std.proofs.lemmas.Bool.{cases_eq, cases_Bool, or_left, or_right}
+use Rattle.std.proofs.lemmas.Bool.{cases_eq, cases_Bool, or_left, or_right, eq-eqb, ne_eqb, or_cases}
 use Rattle.std.proofs.lemmas.List.{length-set, take_more, take_more_set}
-use Rattle.reo_values.proofs.Naturals.{same_eq, other_eq}
-use Rattle.reo_values.proofs.Truths.{either}
 use Rattle.reo_joint_values.specs.declared.value.JointValue.{JointValue}
 use Rattle.reo_joint_values.specs.Values.{value_eq}
 use Rattle.reo_joint_values.proofs.Narrowing.{value_same, same_value}
@@ -36,7 +34,7 @@ some_in [] = (λ lt. absurd (omega arith), λ s. absurd cc)
 some_in (x ∷ xs) = (λ lt. (x, or_left (value_eq x x) (in_set xs x) (value_same x)), λ s. omega arith)
 
 one_of : (x v : JointValue) → in_set (x ∷ []) v ≡ true → x ≡ v
-one_of x v h = elim (either (value_eq x v) false h) [
+one_of x v h = elim (or_cases (value_eq x v) false h) [
   | inl here ↦ same_value x v here
   | inr none ↦ absurd cc
 ]
@@ -65,13 +63,13 @@ module _ (joint : ℕ) (values : List JointValue) (old now : List (List Bool)) (
       → ArePut joint (values ++ w ∷ []) old new
   put_more new alike is = record {
     alike = record { rows = alike.rows ∙ put.alike.rows; width = λ r. alike.width r ∙ put.alike.width r };
-    elsewhere = λ i p ne. is i p ∙ rw (other_eq i joint ne) (put.elsewhere i p ne);
-    here = λ v lt. is joint (code_of v) ∙ rw (same_eq joint joint refl, set_more values w v) (elim (cases_eq (code_of v) (code_of w)) [
+    elsewhere = λ i p ne. is i p ∙ rw (ne_eqb i joint ne) (put.elsewhere i p ne);
+    here = λ v lt. is joint (code_of v) ∙ rw (eq-eqb joint joint refl, set_more values w v) (elim (cases_eq (code_of v) (code_of w)) [
       | inl e ↦
           let same : w ≡ v = sym (value_code w) ∙ ap value_of (sym e) ∙ value_code v in
           let both : value_eq w v ≡ true = ap (value_eq w) (sym same) ∙ value_same w in
-          rw (same_eq (code_of v) (code_of w) e, both) (or_ends (family_of old joint v) (in_set values v))
-      | inr ne ↦ rw (other_eq (code_of v) (code_of w) ne, other_value w v (λ e. ne (ap code_of (sym e)))) (put.here v lt ∙ or_last (family_of old joint v) (in_set values v))
+          rw (eq-eqb (code_of v) (code_of w) e, both) (or_ends (family_of old joint v) (in_set values v))
+      | inr ne ↦ rw (ne_eqb (code_of v) (code_of w) ne, other_value w v (λ e. ne (ap code_of (sym e)))) (put.here v lt ∙ or_last (family_of old joint v) (in_set values v))
     ]);
   }
     where

@@ -1,11 +1,10 @@
 -- Narrowing lists of values by their flags.
 use Rattle.std.proofs.Common.{◌≡◌, ◌↔◌, inl, inr, ℕ, ◌+◌, ◌<◌, ◌≤◌, Bool, true, false, ◌&&◌, List, [], length, get_or, refl, sym, ◌∙◌, arith}
-use Rattle.std.proofs.lemmas.Bool.{cases_Bool, and_parts, and_from}
+use Rattle.std.proofs.lemmas.Bool.{cases_Bool, and_parts, and_from, cases_lt}
 use Rattle.std.proofs.lemmas.List.{get_or_past}
 use Rattle.reo_values.specs.declared.value.Value.{Value}
 use Rattle.reo_net_base.specs.Net.{Net}
 use Rattle.reo_net_laws.specs.Parts.{IsClosed}
-use Rattle.reo_net_laws.proofs.Sides.{below_or}
 use Rattle.reo_joint_values.specs.declared.value.JointValue.{JointValue}
 use Rattle.reo_joint_values.specs.Values.{Names, Family, giver_side, AtSide}
 use Rattle.reo_joint_values.specs.Supported.{IsInGreatest}
@@ -46,7 +45,7 @@ module _ (net : Net) (names : Names) (inside : ℕ → Bool) (items : List (List
 
   -- The values of the lists have their flags.
   pub flags_there : length sets ≡ length net.joints → ((j : ℕ) → length (get_or alive j []) ≡ length (get_or first j [])) → HaveFlags (λ j. inside (giver_side net j)) alive sets
-  flags_there one_each alike j v is h = elim (below_or j (length net.joints)) [
+  flags_there one_each alike j v is h = elim (cases_lt j (length net.joints)) [
     | inl lt ↦ let named = numbers j (giver_side net j) v (giver_of net j lt) is h in omega (arith, named, width j lt, alike j)
     | inr past ↦
         let none : get_or sets j [] ≡ [] = get_or_past sets j [] (omega (arith, past, one_each)) in
@@ -74,7 +73,7 @@ lists_greatest net names inside closed alive old new kept left j side v of is =
 -- Other lists are as they were.
 pub lists_other : (net : Net) (inside : ℕ → Bool) (alive : List (List Bool)) (old new : List (List JointValue)) → length old ≡ length net.joints
     → AreKept (λ j. inside (giver_side net j)) alive old new → (j : ℕ) → ((side : ℕ) → IsJointOf net side j → inside side ≡ true → ⊥) → get_or new j [] ≡ get_or old j []
-lists_other net inside alive old new one_each kept j outside = elim (below_or j (length net.joints)) [
+lists_other net inside alive old new one_each kept j outside = elim (cases_lt j (length net.joints)) [
   | inr past ↦
       let old_past : length old ≤ j = omega (arith, past, one_each) in
       let new_past : length new ≤ j = omega (arith, old_past, kept.one_each) in

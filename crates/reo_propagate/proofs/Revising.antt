@@ -3,7 +3,7 @@ use Rattle.std.proofs.Common.{◌≡◌, inl, inr, ℕ, ◌+◌, ◌<◌, ◌≤
 use Rattle.reo_values.specs.declared.value.Value.{Value}
 use Rattle.reo_net_base.specs.Net.{Net}
 use Rattle.reo_net_base.specs.Wired.{IsWired}
-use Rattle.reo_net_laws.proofs.Sides.{below_or}
+use Rattle.std.proofs.lemmas.Bool.{cases_lt}
 use Rattle.reo_joint_values.specs.declared.value.JointValue.{JointValue}
 use Rattle.reo_joint_values.specs.Values.{Names, Family, AtSide}
 use Rattle.reo_joint_values.specs.Supported.{IsUsed, IsThinned}
@@ -140,7 +140,7 @@ module _ (net : Net) (names : Names) (inside : ℕ → Bool) where
   reduced_side side old new is one_set r = record {
     narrowed = narrowed_thinned net names inside side (family_of old) (family_of new) is r.thinned (λ j v lt off h. r.elsewhere j (code_of v) off ∙ h);
     less = λ j p h. sym (flag_value old j p) ∙ r.thinned.less j (value_of p) (flag_value new j p ∙ h);
-    elsewhere = λ j p off. elim (below_or j (length net.joints)) [
+    elsewhere = λ j p off. elim (cases_lt j (length net.joints)) [
       | inl lt ↦ r.elsewhere j p (λ at. off side (record { in_range = lt; here = at }) is)
       | inr past ↦ no_flag new j p (omega (arith, past, one_set, r.alike.rows)) ∙ sym (no_flag old j p (omega (arith, past, one_set)))
     ];

@@ -1,10 +1,9 @@
 -- Joints where more than 256 items can stand.
 use Rattle.std.proofs.Common.{◌≡◌, ◌⊎◌, inl, inr, ℕ, zero, suc, ◌<◌, Bool, true, false, length, ap, sym, ◌∙◌, arith, below_more}
-use Rattle.std.proofs.lemmas.Bool.{cases_Bool}
+use Rattle.std.proofs.lemmas.Bool.{cases_Bool, cases_lt}
 use Rattle.reo_net_base.specs.Net.{Net, side_at}
 use Rattle.reo_net_base.specs.Wired.{IsWired}
 use Rattle.reo_net_laws.specs.Parts.{IsClosed}
-use Rattle.reo_net_laws.proofs.Sides.{below_or}
 use Rattle.reo_joint_values.specs.Standing.{no_joint, giver_of}
 use Rattle.reo_joint_values.specs.Many.{HasMany, IsJointIn}
 use Rattle.reo_joint_values.proofs.Distinct.{distinct_fewer}
@@ -38,7 +37,7 @@ module _ (net : Net) (wired : IsWired net) (inside : ℕ → Bool) (closed : IsC
     ]
       where
         one_wide : (n : ℕ) → ((j : ℕ) × IsJointIn net inside j × (is_wide supplied j ≡ true)) ⊎ (IsJointIn net inside n → is_wide supplied n ≡ false)
-        one_wide n = elim (below_or n (length net.joints)) [
+        one_wide n = elim (cases_lt n (length net.joints)) [
           | inr past ↦ inr (λ is. absurd (omega (arith, past, is.0)))
           | inl lt ↦ elim (cases_Bool (inside (side_at net (giver_of net n)))) [
             | inr out ↦ inr (λ is. let wrong : false ≡ true = sym out ∙ is.1 in absurd cc)

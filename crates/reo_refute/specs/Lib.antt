@@ -1,4 +1,4 @@
 pub mod check
 pub mod next
 pub mod proving
-pub mod Round
+pub mod Footing

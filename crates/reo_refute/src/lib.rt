@@ -2,9 +2,9 @@
 #![tactic(auto)]
 
 pub mod check;
+mod footing;
 mod next;
 pub mod proving;
-mod round;
 
 pub use check::check_proof;
 pub use proving::prove;

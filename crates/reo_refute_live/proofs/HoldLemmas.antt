@@ -3,11 +3,9 @@ use Rattle.std.proofs.Common.{◌≡◌, inl, inr, ℕ, zero, suc, ◌+◌, ◌<
 use Rattle.std.specs.Prelude.{filter}
 use Rattle.std.specs.Bool.{◌==◌}
 use Rattle.std.specs.List.{range_with_len}
-use Rattle.std.proofs.lemmas.Bool.{cases_eq, cases_Bool, or_left, or_right}
+use Rattle.std.proofs.lemmas.Bool.{cases_eq, cases_Bool, or_left, or_right, eqb-true, eq-eqb, not-false}
 use Rattle.std.proofs.lemmas.Bool.Decides.{nat_tests}
 use Rattle.std.proofs.lemmas.List.{take_more, take_all}
-use Rattle.reo_values.proofs.Naturals.{eq_same, same_eq}
-use Rattle.reo_values.proofs.Truths.{not_false}
 use Rattle.reo_joint_values.specs.declared.value.JointValue.{JointValue}
 use Rattle.reo_joint_values.specs.declared.value.JointValue.TheVariants.{Flow, RG, GR, GG, Jam}
 use Rattle.reo_joint_values.specs.Values.{Family, value_eq}
@@ -57,7 +55,7 @@ among_filter p w (v ∷ vs) h is = elim (cases_Bool (value_eq w v)) [
 among_flows : (n k count : ℕ) → k ≤ n → n < k + count → is_among (Flow n) (map Flow (range_with_len k count)) ≡ true
 among_flows n k zero le lt = absurd (omega (arith, le, lt))
 among_flows n k (suc count) le lt = elim (cases_eq n k) [
-  | inl e ↦ or_left (n == k) (is_among (Flow n) (map Flow (range_with_len (k + 1) count))) (same_eq n k e)
+  | inl e ↦ or_left (n == k) (is_among (Flow n) (map Flow (range_with_len (k + 1) count))) (eq-eqb n k e)
   | inr off ↦ or_right (n == k) (is_among (Flow n) (map Flow (range_with_len (k + 1) count))) (among_flows n (k + 1) count (omega (arith, le, off)) (omega (arith, lt)))
 ]
 
@@ -153,12 +151,12 @@ module _ (live : Family) (joint : ℕ) (keep : JointValue) where
           at : (j : ℕ) (w : JointValue) → held live joint keep (take n vs) j w ≡ held live joint keep (take (n + 1) vs) j w
           at j w = elim (cases_Bool (now joint v)) [
             | inl on ↦
-                let kept : value_eq v keep ≡ true = not_false (value_eq v keep) (and_left (now joint v) (not (value_eq v keep)) stays on) in
+                let kept : value_eq v keep ≡ true = not-false (value_eq v keep) (and_left (now joint v) (not (value_eq v keep)) stays on) in
                 let yes : value_eq w v ≡ true → value_eq w keep ≡ true = λ same. ap (λ (x : JointValue). value_eq x keep) (same_value w v same) ∙ kept in
                 left_in (live j w) (j == joint) (is_among w (take n vs)) (value_eq w v) (value_eq w keep) yes ∙ by_among j w
             | inr dead ↦
                 let none : (j == joint) ≡ true → value_eq w v ≡ true → held live joint keep (take n vs) j w ≡ false =
-                λ here same. sym (now_at j w) ∙ ap (λ (k : ℕ). now k w) (eq_same j joint here) ∙ ap (now joint) (same_value w v same) ∙ dead in
+                λ here same. sym (now_at j w) ∙ ap (λ (k : ℕ). now k w) (eqb-true j joint here) ∙ ap (now joint) (same_value w v same) ∙ dead in
                 left_dead (live j w) (j == joint) (is_among w (take n vs)) (value_eq w v) (value_eq w keep) none ∙ by_among j w
           ]
 
@@ -169,4 +167,4 @@ module _ (live : Family) (joint : ℕ) (keep : JointValue) where
       at : (j : ℕ) (w : JointValue) → held live joint keep vs j w ≡ alone live joint keep j w
       at j w =
           all_held (live j w) (j == joint) (is_among w vs) (value_eq w keep)
-          (λ on here. all w (ap (λ (k : ℕ). live k w) (sym (eq_same j joint here)) ∙ on))
+          (λ on here. all w (ap (λ (k : ℕ). live k w) (sym (eqb-true j joint here)) ∙ on))

@@ -1,10 +1,10 @@
--- Open branches, split by split.
+-- OpenBranch branches, split by split.
 use Rattle.std.proofs.Common.{◌≡◌, inl, inr, subst, ℕ, ◌+◌, ◌<◌, ◌≤◌, List, [], ◌∷◌, ◌++◌, length, get_or, map, drop, refl, ap, sym, ◌∙◌, append_assoc, append-nil, length-append, add-one, arith}
 use Rattle.std.specs.List.{All}
 use Rattle.std.proofs.lemmas.List.{drop_all, get_or_append_left}
 use Rattle.std.proofs.lemmas.List.Elements.{All-head, All-tail}
 use Rattle.std.proofs.Math.Seq.{drop-cons, get_or-append_seam}
-use Rattle.reo_net_laws.proofs.Sides.{below_or}
+use Rattle.std.proofs.lemmas.Bool.{cases_lt}
 use Rattle.reo_joint_values.specs.declared.value.JointValue.{JointValue}
 use Rattle.reo_joint_values.specs.Values.{Family}
 use Rattle.reo_refute_base.specs.Items.{Lists}
@@ -12,7 +12,7 @@ use Rattle.reo_refute_base.specs.Live.{alone, live_at}
 use Rattle.reo_refute_live.specs.declared.branches.Split.{Split}
 use Rattle.reo_refute_live.specs.declared.trail.Gone.{Gone}
 use Rattle.reo_refute_live.specs.Trail.{HasLost}
-use Rattle.reo_refute_live.specs.Open.{at_split, to_come, all_to_come, IsSplit, AreNested}
+use Rattle.reo_refute_live.specs.OpenBranch.{at_split, to_come, all_to_come, IsSplit, AreNested}
 use Rattle.reo_refute_live.proofs.TrailLemmas.{same_since, none_since, lost_none, lost_le}
 
 -- The last split is the innermost.
@@ -86,7 +86,7 @@ nested_last splits last nested k d lt =
     subst (λ (s : Split). (get_or splits k d).gone ≤ s.gone) here (subst (λ (s : Split). s.gone ≤ (get_or (splits ++ (last ∷ [])) (length splits) d).gone) left both)
 
 pub nested_more : (splits : List Split) (last : Split) → AreNested splits → All (λ (s : Split). s.gone ≤ last.gone) splits → AreNested (splits ++ (last ∷ []))
-nested_more splits last nested le i k d lt below = elim (below_or k (length splits)) [
+nested_more splits last nested le i k d lt below = elim (cases_lt k (length splits)) [
   | inl in' ↦
       subst (λ (s : Split). (get_or (splits ++ (last ∷ [])) i d).gone ≤ s.gone) (sym (get_or_append_left splits (last ∷ []) d k in'))
       (subst (λ (s : Split). s.gone ≤ (get_or splits k d).gone) (sym (get_or_append_left splits (last ∷ []) d i (omega (arith, lt, in')))) (nested i k d lt in'))

@@ -1,11 +1,10 @@
 -- Tables of live values, entry by entry.
 use Rattle.std.proofs.Common.{◌≡◌, ◌≢◌, inl, inr, ℕ, ◌+◌, ◌<◌, ◌==◌, ◌&&◌, ◌||◌, not, nat_lt, Bool, true, false, List, [], ◌∷◌, ◌++◌, length, get_or, set, map, take, replicate, refl, ap, sym, ◌∙◌, subst, arith}
-use Rattle.std.proofs.lemmas.Bool.{cases_eq, cases_lt}
+use Rattle.std.proofs.lemmas.Bool.{cases_eq, cases_lt, eq-eqb, ne_eqb}
 use Rattle.std.proofs.lemmas.Bool.Decides.{nat_tests}
 use Rattle.std.proofs.lemmas.List.{length-replicate, length-set, length-map, get_or-replicate, get_or_past, get_or-set_same, get_or-set_other, map-append, take_more}
 use Rattle.std.proofs.Math.ListN.{get_or-map}
 use Rattle.reo_values.specs.declared.value.Value.{Value}
-use Rattle.reo_values.proofs.Naturals.{same_eq, other_eq}
 use Rattle.reo_joint_values.specs.declared.value.JointValue.{JointValue}
 use Rattle.reo_joint_values.specs.declared.value.JointValue.TheVariants.{Flow, RG, GR, GG, Jam}
 use Rattle.reo_joint_values.specs.Values.{value_eq}
@@ -93,8 +92,8 @@ module _ (table : List LiveAt) (joint : ℕ) (lt : joint < length table) (entry 
       at j w = elim (cases_eq j joint) [
         | inl e ↦
             subst (λ (k : ℕ). family_of (set table joint entry) k w ≡ without (family_of table) joint value k w) (sym e)
-            (here_is w ∙ here w ∙ gone_here (family_of table joint w) (joint == joint) (value_eq w value) (same_eq joint joint refl))
-        | inr off ↦ others_stay j w off ∙ gone_other (family_of table j w) (j == joint) (value_eq w value) (other_eq j joint off)
+            (here_is w ∙ here w ∙ gone_here (family_of table joint w) (joint == joint) (value_eq w value) (eq-eqb joint joint refl))
+        | inr off ↦ others_stay j w off ∙ gone_other (family_of table j w) (j == joint) (value_eq w value) (ne_eqb j joint off)
       ]
 
   pub returned : (value : JointValue) → ((w : JointValue) → has entry w ≡ has (get_or table joint none_gone) w || value_eq w value)
@@ -105,6 +104,6 @@ module _ (table : List LiveAt) (joint : ℕ) (lt : joint < length table) (entry 
       at j w = elim (cases_eq j joint) [
         | inl e ↦
             subst (λ (k : ℕ). family_of (set table joint entry) k w ≡ with_back (family_of table) (record { joint = joint; value = value }) k w) (sym e)
-            (here_is w ∙ here w ∙ back_here (family_of table joint w) (joint == joint) (value_eq w value) (same_eq joint joint refl))
-        | inr off ↦ others_stay j w off ∙ back_other (family_of table j w) (j == joint) (value_eq w value) (other_eq j joint off)
+            (here_is w ∙ here w ∙ back_here (family_of table joint w) (joint == joint) (value_eq w value) (eq-eqb joint joint refl))
+        | inr off ↦ others_stay j w off ∙ back_other (family_of table j w) (j == joint) (value_eq w value) (ne_eqb j joint off)
       ]

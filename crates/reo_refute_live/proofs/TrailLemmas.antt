@@ -2,12 +2,10 @@
 use Rattle.std.proofs.Common.{◌≡◌, inl, inr, ℕ, ◌<◌, ◌≤◌, ◌&&◌, ◌||◌, not, nat_lt, Bool, true, false, List, [], ◌∷◌, ◌++◌, length, get_or, drop, refl, ap, sym, ◌∙◌, subst, append_assoc, append-nil, length-append, arith}
 use Rattle.std.specs.Bool.{◌==◌}
 use Rattle.std.specs.List.{All}
-use Rattle.std.proofs.lemmas.Bool.{cases_eq, cases_Bool}
+use Rattle.std.proofs.lemmas.Bool.{cases_eq, cases_Bool, lt-ltb, eq-eqb, ne_eqb, cases_lt}
 use Rattle.std.proofs.lemmas.Bool.Decides.{nat_tests}
 use Rattle.std.proofs.lemmas.List.{drop-append-le, drop_all, get_or_append_left}
 use Rattle.std.proofs.Math.Seq.{get_or-append_seam}
-use Rattle.reo_values.proofs.Naturals.{is_below, same_eq, other_eq}
-use Rattle.reo_net_laws.proofs.Sides.{below_or}
 use Rattle.reo_joint_values.specs.declared.value.JointValue.{JointValue}
 use Rattle.reo_joint_values.specs.declared.value.JointValue.TheVariants.{Flow, RG, GR, GG, Jam}
 use Rattle.reo_joint_values.specs.Values.{Family, value_eq}
@@ -42,11 +40,11 @@ gone_back live joint value is i j w = at j w i
       | inl e ↦ elim (cases_Bool (value_eq w value)) [
         | inl same ↦
             let here : live j w ≡ true = ap (live j) (same_value w value same) ∙ ap (λ (k : ℕ). live k value) e ∙ is in
-            let yes : (j == joint) ≡ true = same_eq j joint e in
+            let yes : (j == joint) ≡ true = eq-eqb j joint e in
             back_here (live j w) (j == joint) (value_eq w value) yes same here
         | inr other ↦ back_other (live j w) (j == joint) (value_eq w value) other
       ]
-      | inr off ↦ back_off (live j w) (j == joint) (value_eq w value) (other_eq j joint off)
+      | inr off ↦ back_off (live j w) (j == joint) (value_eq w value) (ne_eqb j joint off)
     ]
 
 -- One moment after another.
@@ -91,7 +89,7 @@ pub all_last : {X : Type 0} (P : X → Type 0) (xs : List X) (x : X) → All P (
 all_last P xs x all = subst P (get_or-append_seam xs x [] x) (all (length xs) x (omega (arith, length-append xs (x ∷ []))))
 
 pub all_more : {X : Type 0} (P : X → Type 0) (xs : List X) (x : X) → All P xs → P x → All P (xs ++ (x ∷ []))
-all_more P xs x all last k d lt = elim (below_or k (length xs)) [
+all_more P xs x all last k d lt = elim (cases_lt k (length xs)) [
   | inl below ↦ subst P (sym (get_or_append_left xs (x ∷ []) d k below)) (all k d below)
   | inr from ↦
       let same : length xs ≡ k = omega (arith, from, lt, length-append xs (x ∷ [])) in
@@ -101,7 +99,7 @@ all_more P xs x all last k d lt = elim (below_or k (length xs)) [
 pub live_one : (lists : Lists) (table : List LiveAt) → AreLive lists table → (joint : ℕ) (value : JointValue) → family_of table joint value ≡ true → all_live lists joint value ≡ true
 live_one lists table are joint (Flow n) is =
     let lt : n < length (get_or table joint none_gone).flows = flag_in (get_or table joint none_gone).flows n is in
-    is_below (length (items_at lists joint)) n (omega (arith, lt, are.flags joint))
+    lt-ltb n (length (items_at lists joint)) (omega (arith, lt, are.flags joint))
 live_one lists table are joint RG is = refl
 live_one lists table are joint GR is = refl
 live_one lists table are joint GG is = refl

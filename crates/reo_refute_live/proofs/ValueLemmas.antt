@@ -2,11 +2,10 @@
 use Rattle.std.proofs.Common.{◌≡◌, ◌≢◌, ◌↔◌, inl, inr, ℕ, zero, suc, ◌+◌, ◌<◌, ◌||◌, Bool, true, false, cond, List, [], ◌∷◌, ◌++◌, length, get_or, map, refl, ap, sym, ◌∙◌, subst, append_assoc, arith}
 use Rattle.std.specs.Prelude.{filter, IsTrue}
 use Rattle.std.specs.List.{range_with_len}
-use Rattle.std.proofs.lemmas.Bool.{cases_Bool}
+use Rattle.std.proofs.lemmas.Bool.{cases_Bool, cases_lt}
 use Rattle.std.proofs.lemmas.List.Elements.{filter-append}
 use Rattle.std.proofs.lemmas.List.FromFn.{map-range_with_len_more}
 use Rattle.reo_values.proofs.Sequences.{both_none}
-use Rattle.reo_net_laws.proofs.Sides.{below_or}
 use Rattle.reo_joint_values.specs.declared.value.JointValue.{JointValue}
 use Rattle.reo_joint_values.specs.declared.value.JointValue.TheVariants.{Flow, RG, GR, GG, Jam}
 use Rattle.reo_refute_base.specs.Items.{Lists, items_at}
@@ -90,7 +89,7 @@ nil_flows flags zero k none lt = absurd (omega (arith, lt))
 nil_flows flags (suc n) k none lt =
     let is : live_flows flags n ++ one (get_or flags n false) (Flow n) ≡ [] = sym (flows_more flags n) ∙ (let same : n + 1 ≡ suc n = omega arith in ap (live_flows flags) same) ∙ none in
     let both = nil_both (live_flows flags n) (one (get_or flags n false) (Flow n)) is in
-    elim (below_or k n) [
+    elim (cases_lt k n) [
       | inl below ↦ nil_flows flags n k both.0 below
       | inr from ↦ let here : n ≡ k = omega (arith, from, lt) in subst (λ (m : ℕ). get_or flags m false ≡ false) here (nil_one (get_or flags n false) (Flow n) both.1)
     ]

@@ -5,7 +5,7 @@ use Rattle.reo_refute_base.specs.Places.{IsAllowed}
 use Rattle.reo_refute_parts.specs.places.AllowedRows.{AreAllowedRows}
 use Rattle.reo_refute_live.specs.declared.judged.Judged.{Judged}
 use Rattle.reo_refute_live.specs.support.Columns.{AreTables}
-use Rattle.reo_refute_live.specs.Open.{AreSmall}
+use Rattle.reo_refute_live.specs.OpenBranch.{AreSmall}
 
 -- It can be judged: the tables are those of the sides, each joint has an item list, the numbers of
 -- all items are small, and the allowed rows are those of the place.

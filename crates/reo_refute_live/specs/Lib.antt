@@ -1,5 +1,5 @@
 pub mod Trail
-pub mod Open
+pub mod OpenBranch
 pub mod Tables
 pub mod Judged
 pub mod support

@@ -3,7 +3,7 @@ ghost use Rattle.std.specs.Prelude.{◌≡◌, ◌≢◌, ◌<◌, ◌↔◌, �
 ghost use Rattle.reo_refute_base.specs.Live.{all_live, live_at, without};
 ghost use Rattle.reo_refute_base.specs.Steps.{branches};
 ghost use Rattle.reo_refute_live.specs.support.Families.{family_of};
-ghost use Rattle.reo_refute_live.specs.Open.{open_in, still_open, IsOpen, IsClosed, AreSmall};
+ghost use Rattle.reo_refute_live.specs.OpenBranch.{open_in, still_open, IsOpen, IsClosed, AreSmall};
 
 use crate::support::LiveAt;
 use crate::table::{all_values, is_live};
@@ -30,7 +30,7 @@ pub struct Split {
 /// which it stands, the outermost first. What went since a split comes back when its next branch
 /// begins, so that no split keeps a table of its own.
 #[derive(Drop)]
-pub struct Open {
+pub struct OpenBranch {
     /// What is live in the present branch.
     pub table: List<LiveAt>,
     /// The values that went, in their order.
@@ -39,15 +39,15 @@ pub struct Open {
     pub splits: List<Split>,
 }
 
-impl Open {
+impl OpenBranch {
     /// One branch, in which all values are live. `NoMemory` is out of memory.
-    pub fn new(alloc: Global, lists: &[List<Value>]) -> Result<Open, NoMemory>
+    pub fn new(alloc: Global, lists: &[List<Value>]) -> Result<OpenBranch, NoMemory>
         ensures open { IfOk result (IsOpen lists.now) }
         ensures closed { IfOk result (IsClosed lists.now) }
         ensures all { IfOk result (λ live. open_in live ≡ all_live lists.now ∷ []) }
     {
         let table = all_values(alloc, lists)?;
-        Ok(Open {
+        Ok(OpenBranch {
             table,
             gone: List::new(alloc),
             splits: List::new(alloc),

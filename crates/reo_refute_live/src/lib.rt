@@ -8,7 +8,7 @@ mod table;
 mod trail;
 mod values;
 
-pub use branches::{Open, Split};
+pub use branches::{OpenBranch, Split};
 pub use judged::Judged;
 pub use support::{Column, LiveAt, has_support, is_flow_of, tables_of};
 pub use trail::Gone;

@@ -7,4 +7,4 @@ mod places;
 
 pub use lines::{line, put_line};
 pub use lists::item_lists;
-pub use places::{AllowedRows, KeyPlace, Number, key_places};
+pub use places::{AllowedRows, Number, SidePlace, key_places};

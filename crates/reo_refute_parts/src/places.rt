@@ -6,5 +6,5 @@ mod place;
 mod places;
 
 pub use allowed::AllowedRows;
-pub use place::{KeyPlace, Number};
+pub use place::{Number, SidePlace};
 pub use places::key_places;

@@ -1,5 +1,6 @@
 -- What feeds joints: its shape, that it is one, and how it is found.
 use Rattle.std.proofs.Common.{◌≡◌, ◌≢◌, ◌∙◌, inl, inr, ℕ, ◌+◌, ◌<◌, ◌^◌, Bool, false, List, [], ◌∷◌, ◌++◌, length, get_or, set, refl, ap, sym, subst, arith}
+use Rattle.std.proofs.lemmas.Bool.{cases_eq, cases_lt}
 use Rattle.std.specs.Prelude.{◌==◌, if◌then◌else◌}
 use Rattle.std.proofs.Math.Seq.{get_or-append_seam}
 use Rattle.std.proofs.lemmas.Bool.Decides.{nat_tests}
@@ -9,14 +10,13 @@ use Rattle.reo_net_base.specs.declared.joint.Joint.{Joint}
 use Rattle.reo_net_base.specs.Behaviour.{Behaviour, nothing}
 use Rattle.reo_net_base.specs.Net.{Net, behaviour_at, first_side, side_at}
 use Rattle.reo_net_base.specs.Shapes.{SameShapes}
-use Rattle.reo_net_circuit.proofs.Cases.{eq_cases, lt_cases}
 use Rattle.reo_net_circuit.proofs.ReshapeLemmas.{first_same}
 use Rattle.reo_joint_values.specs.Standing.{giver_of, no_joint, taker_of}
 use Rattle.reo_round.specs.Feeds.{AreCodes, AreFeeds, GoesAlone, GoesTo, IsCode, NoneGoes, row_code, state_code}
 
 -- An end is of the same side of its primitive in each circuit of the same shape.
 side_of_same : (bs ds : List Behaviour) → SameShapes bs ds → (i end : ℕ) → (behaviour_at ds i).side_of end ≡ (behaviour_at bs i).side_of end
-side_of_same bs ds shapes i end = elim (lt_cases i (length bs)) [
+side_of_same bs ds shapes i end = elim (cases_lt i (length bs)) [
   | inl lt ↦ (shapes.same i lt).side_of end
   | inr past ↦ ap (λ (b : Behaviour). b.side_of end) (get_or_past ds i nothing (omega (arith, past, shapes.count)) ∙ sym (get_or_past bs i nothing past))
 ]
@@ -118,7 +118,7 @@ module _ (net : Net) (n : ℕ) (few : n < 2 ^ 31) where
   code_more s code here (inr (inl none)) =
       subst (IsCode net (n + 1) s) (ap (λ (c : ℕ). noted c n) (sym none.0)) (inl (record {
         goes = (omega arith, here);
-        alone = λ m h. elim (eq_cases m n) [ inl e ↦ e | inr ne ↦ absurd (none.1 m (omega (arith, h.0, ne), h.1)) ];
+        alone = λ m h. elim (cases_eq m n) [ inl e ↦ e | inr ne ↦ absurd (none.1 m (omega (arith, h.0, ne), h.1)) ];
       }))
   code_more s code here (inr (inr two)) =
       subst (IsCode net (n + 1) s) (ap (λ (c : ℕ). noted c n) (sym two.0)) (inr (inr (
@@ -136,14 +136,14 @@ module _ (net : Net) (n : ℕ) (few : n < 2 ^ 31) where
   code_over : (s code : ℕ) → side_at net (taker_of net n) ≢ s → IsCode net n s code → IsCode net (n + 1) s code
   code_over s code there (inl one) = inl (record {
     goes = (omega (arith, one.goes.0), one.goes.1);
-    alone = λ m h. elim (eq_cases m n) [
+    alone = λ m h. elim (cases_eq m n) [
       | inl e ↦ absurd (there (ap (λ (k : ℕ). side_at net (taker_of net k)) (sym e) ∙ h.1))
       | inr ne ↦ one.alone m (omega (arith, h.0, ne), h.1)
     ];
   })
   code_over s code there (inr (inl none)) = inr (inl (
     none.0,
-    λ m h. elim (eq_cases m n) [
+    λ m h. elim (cases_eq m n) [
       | inl e ↦ there (ap (λ (k : ℕ). side_at net (taker_of net k)) (sym e) ∙ h.1)
       | inr ne ↦ none.1 m (omega (arith, h.0, ne), h.1)
     ],
@@ -163,7 +163,7 @@ module _ (net : Net) (n : ℕ) (few : n < 2 ^ 31) where
   pub codes_more : (side : ℕ) → side ≡ side_at net (taker_of net n) → (old new : List ℕ) → new ≡ set old side (noted (get_or old side 0) n) → AreCodes net n old → AreCodes net (n + 1) new
   codes_more side there old new is are = record {
     one_each = ap (λ (xs : List ℕ). length xs) is ∙ length-set old side (noted (get_or old side 0) n) ∙ are.one_each;
-    each = λ s lt. elim (eq_cases s side) [
+    each = λ s lt. elim (cases_eq s side) [
       | inl e ↦
           let s_in : s < length old = omega (arith, lt, are.one_each) in
           let value : get_or new s 0 ≡ noted (get_or old s 0) n =
@@ -184,7 +184,7 @@ pub record AreFeedsTo (net : Net) (n : ℕ) (codes : List ℕ) : Type 0 where
 pub fed_more : (net : Net) (n code : ℕ) (old new : List ℕ) → new ≡ old ++ code ∷ [] → IsCode net (length net.joints) (side_at net (giver_of net n)) code → AreFeedsTo net n old → AreFeedsTo net (n + 1) new
 fed_more net n code old new is here are = record {
   one_each = ap (λ (xs : List ℕ). length xs) is ∙ length-append old (code ∷ []) ∙ ap (λ (k : ℕ). k + 1) are.one_each;
-  each = λ j lt. elim (eq_cases j n) [
+  each = λ j lt. elim (cases_eq j n) [
     | inl e ↦
         let value : get_or new n 0 ≡ code = ap (λ (xs : List ℕ). get_or xs n 0) is ∙ ap (λ (k : ℕ). get_or (old ++ code ∷ []) k 0) (sym are.one_each) ∙ get_or-append_seam old code [] 0 in
         subst (λ (k : ℕ). IsCode net (length net.joints) (side_at net (giver_of net k)) (get_or new k 0)) (sym e)

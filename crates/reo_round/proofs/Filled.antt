@@ -13,7 +13,6 @@ use Rattle.reo_net_base.specs.Colouring.{IsColouring}
 use Rattle.reo_net_base.specs.Marks.{is_flow, marks_match}
 use Rattle.reo_net_base.specs.Net.{Net, mark_at, side_at}
 use Rattle.reo_net_base.specs.Wired.{IsWired}
-use Rattle.reo_net_circuit.proofs.Cases.{eq_cases, lt_cases}
 use Rattle.reo_net_circuit.specs.found_ends.Ends.{AreEnds}
 use Rattle.reo_net_laws.proofs.Sides.{side_in_range}
 use Rattle.reo_net_laws.specs.Knots.{Knotted, AreKnots, in_knot, knot_count}
@@ -24,17 +23,15 @@ use Rattle.reo_trace.specs.Entries.{is_idle, is_still}
 use Rattle.reo_flows.specs.stepping.Flowing.{AreFlowing}
 use Rattle.reo_round.specs.Filling.{AreBlank, AreBlankOn, AreFilled, AreHeld, AreHeldAmong, AreMoving, IsPartFilled}
 use Rattle.reo_round.proofs.Putting.{far_all, far_none, giver_flows, others_none, others_some}
-use Rattle.std.proofs.lemmas.Bool.{and_from as both}
-use Rattle.reo_values.proofs.Truths.{and_right}
-use Rattle.reo_values.proofs.Naturals.{eq_same, lt_true, same_eq}
+use Rattle.std.proofs.lemmas.Bool.{and_from as both, cases_eq, cases_lt, and_parts, eqb-true, lt-ltb, eq-eqb}
 use Rattle.reo_net_base.proofs.Marks.{flow_cases}
 use Rattle.reo_flows.proofs.stepping.Far.{none_at}
 
 in_own : (numbers : List ℕ) (s k : ℕ) → s < length numbers → get_or numbers s 0 ≡ k → in_knot numbers k s ≡ true
-in_own numbers s k lt is = both (nat_lt s (length numbers)) (get_or numbers s 0 == k) (lt_true s (length numbers) lt) (same_eq (get_or numbers s 0) k is)
+in_own numbers s k lt is = both (nat_lt s (length numbers)) (get_or numbers s 0 == k) (lt-ltb s (length numbers) lt) (eq-eqb (get_or numbers s 0) k is)
 
 number_of : (numbers : List ℕ) (s k : ℕ) → in_knot numbers k s ≡ true → get_or numbers s 0 ≡ k
-number_of numbers s k h = eq_same (get_or numbers s 0) k (and_right (nat_lt s (length numbers)) (get_or numbers s 0 == k) h)
+number_of numbers s k h = eqb-true (get_or numbers s 0) k ((and_parts (nat_lt s (length numbers)) (get_or numbers s 0 == k) h).1)
 
 -- The part of a joint.
 abbrev pub part_of : Net → Knotted → ℕ → ℕ
@@ -78,7 +75,7 @@ below_none net knots others items noted blank held = record { here = λ j lt bef
 pub below_more : (net : Net) → IsWired net → (knots : Knotted) → AreKnots net knots → (n : ℕ) (others items next : List (Option Value)) (noted more : List ℕ)
     → IsFilledBelow net knots others n items noted → IsPartFilled net (in_knot knots.numbers n) others items next more → IsFilledBelow net knots others (n + 1) next more
 below_more net wired knots are n others items next noted more far part = record {
-  here = λ j lt before. elim (eq_cases (part_of net knots j) n) [
+  here = λ j lt before. elim (cases_eq (part_of net knots j) n) [
     | inl e ↦ part.here j (lt, own net wired knots are j n lt e)
     | inr ne ↦ part.others j (λ is. ne (of_part net wired knots are j n is)) ∙ far.here j lt (omega (arith, before, ne))
   ];
@@ -152,7 +149,7 @@ module _ (net : Net) (wired : IsWired net) (rows : List ℕ) (items : List (Opti
   pub held_flow : AreFlowing net rows noted
   held_flow =
       let in_range : (m : ℕ) → m < length noted → get_or noted m 0 < length net.joints =
-      λ m lt. elim (lt_cases (get_or noted m 0) (length net.joints)) [
+      λ m lt. elim (cases_lt (get_or noted m 0) (length net.joints)) [
         | inl below ↦ below
         | inr past ↦ absurd (held.some m lt (past_none items (get_or noted m 0) (omega (arith, is.one_each, past))))
       ] in
@@ -217,7 +214,7 @@ cleared_none joints old = record { count = refl; here = λ m lt. absurd (omega a
 pub cleared_more : (joints : List ℕ) (n : ℕ) (old new next : List (Option Value)) → IsClearedTo joints n old new → next ≡ set new (get_or joints n 0) None → IsClearedTo joints (n + 1) old next
 cleared_more joints n old new next far is = record {
   count = ap (λ (xs : List (Option Value)). length xs) is ∙ length-set new (get_or joints n 0) None ∙ far.count;
-  here = λ m lt. ap (λ (xs : List (Option Value)). get_or xs (get_or joints m 0) None) is ∙ elim (eq_cases m n) [
+  here = λ m lt. ap (λ (xs : List (Option Value)). get_or xs (get_or joints m 0) None) is ∙ elim (cases_eq m n) [
     | inl e ↦ subst (λ (k : ℕ). get_or (set new (get_or joints n 0) None) (get_or joints k 0) None ≡ None) (sym e) (none_there new (get_or joints n 0))
     | inr ne ↦ none_at new (get_or joints n 0) (get_or joints m 0) (far.here m (omega (arith, lt, ne)))
   ];

@@ -1,5 +1,6 @@
 -- Items that are put at the joints of a part, one after the other.
 use Rattle.std.proofs.Common.{◌≡◌, ◌≢◌, ◌∙◌, ◌↔◌, inl, inr, ℕ, zero, suc, ◌+◌, ◌-◌, ◌<◌, ◌≤◌, Bool, true, false, List, [], ◌∷◌, ◌++◌, drop, length, get_or, refl, ap, sym, subst, arith}
+use Rattle.std.proofs.lemmas.Bool.{cases_eq, cases_lt}
 use Rattle.std.specs.List.{All}
 use Rattle.std.specs.Prelude.{Contains, Option, Some, None, filter}
 use Rattle.std.proofs.Math.Seq.{drop-cons}
@@ -15,7 +16,6 @@ use Rattle.reo_net_base.specs.Ends.{IsTaker}
 use Rattle.reo_net_base.specs.Net.{Net, all_sides, behaviour_at, end_of, mark_at, row_at, side_at}
 use Rattle.reo_net_base.specs.Wired.{IsWired}
 use Rattle.reo_net_base.proofs.Marks.{mark_flows, mark_still}
-use Rattle.reo_net_circuit.proofs.Cases.{eq_cases, lt_cases}
 use Rattle.reo_net_circuit.specs.found_ends.Ends.{AreEnds, joint_at}
 use Rattle.reo_net_circuit.proofs.found_ends.EndLemmas.{taker_at}
 use Rattle.reo_net_laws.specs.Ends.{mark_in, from_in}
@@ -83,7 +83,7 @@ module _ (net : Net) (wired : IsWired net) (rows : List ℕ) (others : List (Opt
       let lawful = wired.lawful e.primitive e_in.0 in
       let below = row_in_table net wired e e_in rows (record { of = b; number = 0 }) (row_below (all_sides net.primitives) rows is.rows_fit.in_tables (side_at net e) (record { of = b; number = 0 }) (side_in_range net wired e e_in)) in
       record {
-        plain = elim (lt_cases (row + 1) (b.rows side)) [
+        plain = elim (cases_lt (row + 1) (b.rows side)) [
           | inl lt ↦ lt
           | inr le ↦ absurd (let jams = lawful.jam_row side row e.end (lawful.sides_in e.end e_in.1) (e_in.1, refl) (omega (arith, below, le)) in cc)
         ];
@@ -147,13 +147,13 @@ module _ (net : Net) (wired : IsWired net) (rows : List ℕ) (others : List (Opt
           let longer : length more ≡ length noted + 1 = ap (λ (xs : List ℕ). length xs) put.noted_is ∙ length-append noted (j ∷ []) in
           record {
             count = put.count ∙ far.count;
-            here = λ m lt. elim (eq_cases m n) [
+            here = λ m lt. elim (cases_eq m n) [
               | inl e ↦ subst (λ (k : ℕ). get_or next (get_or joints k 0) None ≡ get_or others (get_or joints k 0) None) (sym e) item
               | inr ne ↦ let earlier : m < n = omega (arith, lt, ne) in put.others (get_or joints m 0) (ordered.once m n earlier n_in) ∙ far.here m earlier
             ];
             rest = λ k h. put.others k (λ e. h n (omega arith) (sym e)) ∙ far.rest k (λ m lt. h m (omega arith));
             held = record {
-              some = λ m lt. elim (lt_cases m (length noted)) [
+              some = λ m lt. elim (cases_lt m (length noted)) [
                 | inl before ↦
                     let at : get_or more m 0 ≡ get_or noted m 0 = ap (λ (xs : List ℕ). get_or xs m 0) put.noted_is ∙ before_end noted (j ∷ []) m before in
                     let was = far.held.some m before in
@@ -164,7 +164,7 @@ module _ (net : Net) (wired : IsWired net) (rows : List ℕ) (others : List (Opt
                     let at : get_or more m 0 ≡ j = ap (λ (xs : List ℕ). get_or xs m 0) put.noted_is ∙ ap (λ (k : ℕ). get_or (noted ++ j ∷ []) k 0) last ∙ at_end noted j in
                     λ none. some (ap (λ (k : ℕ). get_or next k None) (sym at) ∙ none)
               ];
-              each = λ k there. elim (eq_cases k j) [
+              each = λ k there. elim (cases_eq k j) [
                 | inl e ↦ (length noted, omega (arith, longer), ap (λ (xs : List ℕ). get_or xs (length noted) 0) put.noted_is ∙ at_end noted j ∙ sym e)
                 | inr ne ↦
                     let found = far.held.each k (λ none. there (put.others k ne ∙ none)) in
@@ -182,7 +182,7 @@ module _ (net : Net) (wired : IsWired net) (rows : List ℕ) (others : List (Opt
           → mark_at net rows (giver_of net (get_or joints n 0)) ≢ F → IsFilledTo joints others (n + 1) old new noted
       still_more n n_in old new noted blank far not = record {
         count = far.count;
-        here = λ m lt. elim (eq_cases m n) [
+        here = λ m lt. elim (cases_eq m n) [
           | inl e ↦ subst (λ (k : ℕ). get_or new (get_or joints k 0) None ≡ get_or others (get_or joints k 0) None) (sym e)
               (blank_yet n n_in old new noted blank far ∙ sym (others_none (get_or joints n 0) (ordered.in_range n n_in) (λ flows. not (flows no_joint))))
           | inr ne ↦ far.here m (omega (arith, lt, ne))

@@ -3,10 +3,9 @@ use Rattle.std.proofs.Common.{◌≡◌, ℕ, zero, suc, cond, true, false, List
 use Rattle.std.specs.Prelude.{Option, Some, None, nat_lt, is_some}
 use Rattle.std.proofs.lemmas.List.{length-map}
 use Rattle.reo_values.specs.declared.value.Value.{Value}
-use Rattle.reo_net_base.specs.declared.colouring.Chosen.{Chosen}
 use Rattle.reo_net_base.specs.declared.joint.Joint.{Joint}
 use Rattle.reo_net_base.specs.declared.port.Offer.{Offer}
-use Rattle.reo_net_base.specs.Lawful.{IsLawful, SameShape}
+use Rattle.reo_net_base.specs.Lawful.{SameShape}
 use Rattle.reo_net_base.specs.Net.{Wiring, net_of, behaviour_at}
 use Rattle.reo_net_base.specs.Step.{stepped, all_chosen, all_taken}
 use Rattle.reo_net_base.specs.Wired.{IsWired}
@@ -18,14 +17,8 @@ use Rattle.reo_rounds.specs.Rules.{Rules}
 use Rattle.reo_rounds.specs.Ready.{cleared, with_pending, ports_ready, ready, ready_net}
 use Rattle.reo_rounds.specs.EngineRound.{EngineRound}
 use Rattle.reo_rounds.specs.Order.{HasOrder}
+use Rattle.reo_rounds.specs.Lasting.{KeepsShape}
 use Rattle.reo_rounds.specs.RoundOn.{Suiting, RoundOn}
-
--- What stands in a circuit keeps its laws, and its shape whatever happens to it.
-pub record KeepsShape {P : Type 0} (r : Rules P) : Type 0 where
-  pub lawful : (p : P) → IsLawful (r.behaviour p)
-  pub settled : (p : P) (rows : Chosen) (taken : Option Value) → SameShape (r.behaviour p) (r.behaviour (r.settled p rows taken))
-  pub placed : (p : P) (offer : Offer) → SameShape (r.behaviour p) (r.behaviour (r.placed p offer))
-  pub withdrawn : (p : P) → SameShape (r.behaviour p) (r.behaviour (r.withdrawn p))
 
 module _ {P : Type 0} (r : Rules P) (offers : ℕ → Option Offer) where
   ready_length : (ps : List P) (limit n : ℕ) → length (ports_ready r offers limit n ps) ≡ length ps

@@ -3,6 +3,7 @@ pub mod Ready
 pub mod Plans
 pub mod Offering
 pub mod Order
+pub mod Lasting
 pub mod RoundOn
 pub mod EngineRound
 pub mod Stopping

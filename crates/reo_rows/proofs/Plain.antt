@@ -1,9 +1,8 @@
 -- Marks without flow say all that there is to say of a value.
 use Rattle.std.proofs.Common.{◌≡◌, ◌≢◌, inl, inr, ℕ, ◌<◌, true, length, Option, Some, None, ap, sym, ◌∙◌, subst}
 use Rattle.std.specs.Bool.{◌==◌}
-use Rattle.std.proofs.lemmas.Bool.{cond-true, cond-false}
+use Rattle.std.proofs.lemmas.Bool.{cond-true, cond-false, eq-eqb, ne_eqb}
 use Rattle.reo_values.specs.declared.value.Value.{Value}
-use Rattle.reo_values.proofs.Naturals.{same_eq, other_eq}
 use Rattle.reo_net_base.specs.declared.mark.Mark.TheVariants.{F}
 use Rattle.reo_net_base.specs.Net.{Net}
 use Rattle.reo_net_base.specs.Wired.{IsWired}
@@ -20,13 +19,13 @@ use Rattle.reo_rows.specs.Stands.{value_mark}
 -- At a joint a side is the giver's or, else, the taker's.
 module _ (net : Net) (side j : ℕ) where
   pub giver_seen : giver_side net j ≡ side → (v : JointValue) → value_mark net side j v ≡ giver_mark v
-  giver_seen at v = cond-true (giver_side net j == side) (giver_mark v) (taker_mark v) (same_eq (giver_side net j) side at)
+  giver_seen at v = cond-true (giver_side net j == side) (giver_mark v) (taker_mark v) (eq-eqb (giver_side net j) side at)
 
   pub other_seen : giver_side net j ≢ side → (v : JointValue) → value_mark net side j v ≡ taker_mark v
-  other_seen off v = cond-false (giver_side net j == side) (giver_mark v) (taker_mark v) (other_eq (giver_side net j) side off)
+  other_seen off v = cond-false (giver_side net j == side) (giver_mark v) (taker_mark v) (ne_eqb (giver_side net j) side off)
 
   pub giver_end : giver_side net j ≡ side → end_at net side j ≡ (joint_of net j).giver
-  giver_end at = cond-true (giver_side net j == side) (joint_of net j).giver (joint_of net j).taker (same_eq (giver_side net j) side at)
+  giver_end at = cond-true (giver_side net j == side) (joint_of net j).giver (joint_of net j).taker (eq-eqb (giver_side net j) side at)
 
   pub giver_says : (row : ℕ) → giver_side net j ≡ side → mark_at_joint net side row j ≡ mark_in net row (joint_of net j).giver
   giver_says row at = ap (mark_in net row) (giver_end at)
@@ -39,7 +38,7 @@ module _ (net : Net) (side j : ℕ) where
     taker_seen v = other_seen gives_not v
 
     pub taker_end : end_at net side j ≡ (joint_of net j).taker
-    taker_end = cond-false (giver_side net j == side) (joint_of net j).giver (joint_of net j).taker (other_eq (giver_side net j) side gives_not)
+    taker_end = cond-false (giver_side net j == side) (joint_of net j).giver (joint_of net j).taker (ne_eqb (giver_side net j) side gives_not)
 
     pub taker_says : (row : ℕ) → mark_at_joint net side row j ≡ mark_in net row (joint_of net j).taker
     taker_says row = ap (mark_in net row) taker_end

@@ -1,9 +1,8 @@
 -- Where all rows that lack a mark are idle, a side can do without them.
 use Rattle.std.proofs.Common.{◌≡◌, ◌≢◌, ◌⊎◌, inl, inr, ◌↔◌, ℕ, ◌<◌, Bool, true, List, [], length, get_or, Some, None, refl, sym, subst, arith}
 use Rattle.std.specs.Bool.{◌==◌}
-use Rattle.std.proofs.lemmas.Bool.{both_ways, and_from}
+use Rattle.std.proofs.lemmas.Bool.{both_ways, and_from, eq-eqb}
 use Rattle.reo_values.specs.declared.value.Value.{Value}
-use Rattle.reo_values.proofs.Naturals.{same_eq}
 use Rattle.reo_net_base.specs.declared.mark.Mark.{Mark}
 use Rattle.reo_net_base.specs.Net.{Net}
 use Rattle.reo_net_base.specs.Sides.{side_count}
@@ -36,7 +35,7 @@ live_row net wired items rows tables side lt j of row set =
 pub live_noted : (net : Net) → IsWired net → (side j : ℕ) → IsJointOf net side j → (live : List (List Bool)) (notes : List (List Group)) → AreNoted net live side notes → (row : ℕ) → IsRowOf net side row → flag live side row ≡ true
     → (d : Group) → (get_or (get_or notes side []) (group_in net side row) d).first ≢ None
 live_noted net wired side j of live notes noted row in_table set d none =
-    let here : live_in net live side (group_in net side row) row ≡ true = and_from (flag live side row) (group_in net side row == group_in net side row) set (same_eq (group_in net side row) (group_in net side row) refl) in
+    let here : live_in net live side (group_in net side row) row ≡ true = and_from (flag live side row) (group_in net side row == group_in net side row) set (eq-eqb (group_in net side row) (group_in net side row) refl) in
     both_ways (live_in net live side (group_in net side row) row) ((noted (group_in net side row) d (group_below net wired side j row of in_table)).none none row) here
 
 module _ (net : Net) (wired : IsWired net) (family : Family) (items : List (List Value)) (side j : ℕ) (lt : side < side_count net) (of : IsJointOf net side j) (marks : Marks)

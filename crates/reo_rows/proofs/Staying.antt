@@ -1,9 +1,8 @@
 -- A side stays at rest where a joint of it loses values without flow, if the rows that lack marks there can be spared.
 use Rattle.std.proofs.Common.{◌≡◌, ◌≢◌, ◌⊎◌, inl, inr, ℕ, ◌<◌, true, false, List, [], length, get_or, Option, Some, None, refl, ap, sym, ◌∙◌, subst}
 use Rattle.std.specs.Bool.{◌==◌}
-use Rattle.std.proofs.lemmas.Bool.{cases_eq, and_parts, and_from, false_from_ne_true}
+use Rattle.std.proofs.lemmas.Bool.{cases_eq, and_parts, and_from, false_from_ne_true, eqb-true, eq-eqb}
 use Rattle.reo_values.specs.declared.value.Value.{Value}
-use Rattle.reo_values.proofs.Naturals.{eq_same, same_eq}
 use Rattle.reo_net_base.specs.declared.mark.Mark.TheVariants.{F}
 use Rattle.reo_net_base.specs.Net.{Net}
 use Rattle.reo_net_base.specs.Wired.{IsWired}
@@ -116,7 +115,7 @@ module _ (net : Net) (wired : IsWired net) (names : Names) (old new : Family) (s
         let both = and_parts (flag rows_old.live side row) (group_in net side row == group) live in
         let set : flag rows_new.live side row ≡ true = elim (spared.gone row both.0) [
           | inl set ↦ set
-          | inr spare ↦ absurd (never (eq_same (group_in net side row) group both.1) spare)
+          | inr spare ↦ absurd (never (eqb-true (group_in net side row) group both.1) spare)
         ] in
         and_from (flag rows_new.live side row) (group_in net side row == group) set both.1
 
@@ -164,7 +163,7 @@ module _ (net : Net) (wired : IsWired net) (names : Names) (old new : Family) (s
     by_other : (other : ℕ) → live_in net rows_new.live side (group_in net side row) other ≡ true → apart_in net side other ≢ Some (end_at net side i).end → IsUsed net names new side i v
     by_other other live off =
         let both = and_parts (flag rows_new.live side other) (group_in net side other == group_in net side row) live in
-        let here : group_in net side other ≡ group_in net side row = eq_same (group_in net side other) (group_in net side row) both.1 in
+        let here : group_in net side other ≡ group_in net side row = eqb-true (group_in net side other) (group_in net side row) both.1 in
         let works_other = works_now other both.0 in
         let same : mark_at_joint net side other i ≡ mark_at_joint net side row i =
         mark_as_group net wired side i other of works_other.in_table off
@@ -180,7 +179,7 @@ module _ (net : Net) (wired : IsWired net) (names : Names) (old new : Family) (s
     of_group = get_or (get_or rows_old.notes side []) (group_in net side row) nothing_noted
 
     live_row : live_in net rows_old.live side (group_in net side row) row ≡ true
-    live_row = and_from (flag rows_old.live side row) (group_in net side row == group_in net side row) set (same_eq (group_in net side row) (group_in net side row) refl)
+    live_row = and_from (flag rows_old.live side row) (group_in net side row == group_in net side row) set (eq-eqb (group_in net side row) (group_in net side row) refl)
 
     was : IsNotedOf net side (live_in net rows_old.live side (group_in net side row)) of_group
     was = sifted.noted (group_in net side row) nothing_noted group_in_range

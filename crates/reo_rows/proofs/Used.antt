@@ -2,9 +2,8 @@
 use Rattle.std.proofs.Common.{◌≡◌, ◌⊎◌, inl, inr, ℕ, ◌+◌, ◌-◌, ◌<◌, ◌≤◌, Bool, true, false, ◌&&◌, cond, List, [], length, get_or, Option, None, Some, refl, ap, sym, ◌∙◌, subst, arith}
 use Rattle.std.specs.Bool.{◌==◌}
 use Rattle.std.specs.Option.{is_some}
-use Rattle.std.proofs.lemmas.Bool.{cases_Bool, cond-true, cond-false, and_from, and_parts}
+use Rattle.std.proofs.lemmas.Bool.{cases_Bool, cond-true, cond-false, and_from, and_parts, eqb-true, eq-eqb}
 use Rattle.reo_values.specs.declared.value.Value.{Value}
-use Rattle.reo_values.proofs.Naturals.{eq_same, same_eq}
 use Rattle.reo_net_base.specs.declared.mark.Mark.TheVariants.{F}
 use Rattle.reo_net_base.specs.Net.{Net}
 use Rattle.reo_net_base.specs.Wired.{IsWired}
@@ -36,10 +35,10 @@ put_seen old new i p alike is = record {
     | inr off ↦ is j code ∙ cond-false ((j == i) && (code == p)) true (flag old j code) off ∙ h
   ];
   sound = λ j code h. elim (cases_Bool ((j == i) && (code == p))) [
-    | inl here ↦ let both = and_parts (j == i) (code == p) here in inr (eq_same j i both.0, eq_same code p both.1)
+    | inl here ↦ let both = and_parts (j == i) (code == p) here in inr (eqb-true j i both.0, eqb-true code p both.1)
     | inr off ↦ inl (sym (is j code ∙ cond-false ((j == i) && (code == p)) true (flag old j code) off) ∙ h)
   ];
-  whole = λ j code u. is j code ∙ cond-true ((j == i) && (code == p)) true (flag old j code) (and_from (j == i) (code == p) (same_eq j i u.0) (same_eq code p u.1));
+  whole = λ j code u. is j code ∙ cond-true ((j == i) && (code == p)) true (flag old j code) (and_from (j == i) (code == p) (eq-eqb j i u.0) (eq-eqb code p u.1));
 }
 
 -- It is taken in, and then what is given for it is seen.

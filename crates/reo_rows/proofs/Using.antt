@@ -2,10 +2,9 @@
 use Rattle.std.proofs.Common.{◌≡◌, ◌≢◌, ◌⊎◌, inl, inr, ◌↔◌, ℕ, ◌+◌, ◌<◌, ◌≤◌, Bool, true, false, ◌||◌, List, [], length, get_or, Some, None, refl, ap, sym, ◌∙◌, subst, arith}
 use Rattle.std.specs.Bool.{◌==◌}
 use Rattle.std.specs.Option.{is_some}
-use Rattle.std.proofs.lemmas.Bool.{and_parts, and_from, or_cases, or_left, or_right, cases_eq}
+use Rattle.std.proofs.lemmas.Bool.{and_parts, and_from, or_cases, or_left, or_right, cases_eq, eqb-true, eq-eqb}
 use Rattle.std.proofs.lemmas.List.{get_or_default}
 use Rattle.reo_values.specs.declared.value.Value.{Value}
-use Rattle.reo_values.proofs.Naturals.{eq_same, same_eq}
 use Rattle.reo_net_base.specs.declared.mark.Mark.{Mark}
 use Rattle.reo_net_base.specs.declared.mark.Mark.TheVariants.{F}
 use Rattle.reo_net_base.specs.Net.{Net}
@@ -121,7 +120,7 @@ module _ (net : Net) (wired : IsWired net) (live : List (List Bool)) (side j : �
   common_live : IsCommonMark net live side j (groups_in net side) m → IsLiveMark net live side j m
   common_live c =
       let both = and_parts (flag live side c.used.row) (group_in net side c.used.row == c.group) c.used.has in
-      let here : group_in net side c.used.row ≡ c.group = eq_same (group_in net side c.used.row) c.group both.1 in (
+      let here : group_in net side c.used.row ≡ c.group = eqb-true (group_in net side c.used.row) c.group both.1 in (
         c.used.row,
         both.0,
         mark_as_group net wired side j c.used.row of (in_table c.used.row both.0) c.used.common ∙ ap (λ (g : ℕ). common_in net side g (end_at net side j).end) here ∙ c.says,
@@ -146,7 +145,7 @@ module _ (net : Net) (wired : IsWired net) (live : List (List Bool)) (side j : �
           group = group;
           below = group_below net wired side j h.0 of (in_table h.0 h.1);
           says = sym (mark_as_group net wired side j h.0 of (in_table h.0 h.1) with) ∙ h.2;
-          used = record { row = h.0; has = and_from (flag live side h.0) (group == group) h.1 (same_eq group group refl); common = with };
+          used = record { row = h.0; has = and_from (flag live side h.0) (group == group) h.1 (eq-eqb group group refl); common = with };
         })
   ]
 

@@ -1,8 +1,8 @@
 -- Ends that are put into a table one after another.
 use Rattle.std.proofs.Common.{◌≡◌, ◌∙◌, ℕ, List, [], ◌∷◌, ◌++◌, map, Bool, true, false, not, ◌||◌, ◌&&◌, ◌⊎◌, inl, inr, refl, sym, ap, bytes_eq}
+use Rattle.std.proofs.Math.Bool.{or-false}
 use Rattle.std.specs.List.{list_any, zip}
 use Rattle.std.proofs.lemmas.List.Folds.{list_any-append}
-use Rattle.reo_values.proofs.Truths.{or_false}
 use Rattle.reo_trees.specs.declared.programs.Parameter.{Parameter}
 use Rattle.reo_rules.specs.Lists.{has_name}
 use Rattle.reo_rules.specs.Names.{with_name}
@@ -20,13 +20,13 @@ use Rattle.reo_rules_names.proofs.SameLemmas.{has_name-with}
 is_touched-push : (ts : List Touch) (at name : List ℕ) (way is_source : Bool) → is_touched (ts ++ touch at way ∷ []) name is_source ≡ (is_touched ts name is_source || (bytes_eq name at && bool_eq way is_source))
 is_touched-push ts at name way is_source =
     list_any-append (λ (t : Touch). bytes_eq name t.name && bool_eq t.is_source is_source) ts (touch at way ∷ [])
-    ∙ ap (λ b. is_touched ts name is_source || b) (or_false (bytes_eq name at && bool_eq way is_source))
+    ∙ ap (λ b. is_touched ts name is_source || b) (or-false (bytes_eq name at && bool_eq way is_source))
 
 -- The names after one more, of which the test is that of an end of the right way.
 noted : (xs : List (List ℕ)) (ts : List Touch) (at name : List ℕ) (is_source : Bool) → has_name xs name ≡ is_touched ts name is_source → has_name (with_name xs at) name ≡ is_touched (ts ++ touch at is_source ∷ []) name is_source
 noted xs ts at name is_source same =
     has_name-with xs at name ∙ list_any-append (bytes_eq name) xs (at ∷ []) ∙ ap (λ b. b || (bytes_eq name at || false)) same
-    ∙ ap (λ b. is_touched ts name is_source || b) (or_false (bytes_eq name at) ∙ sym (right_way is_source (bytes_eq name at))) ∙ sym (is_touched-push ts at name is_source is_source) where
+    ∙ ap (λ b. is_touched ts name is_source || b) (or-false (bytes_eq name at) ∙ sym (right_way is_source (bytes_eq name at))) ∙ sym (is_touched-push ts at name is_source is_source) where
       right_way : (way b : Bool) → (b && bool_eq way way) ≡ b
       right_way true true = refl
       right_way true false = refl
@@ -36,7 +36,7 @@ noted xs ts at name is_source same =
 -- An end of the other way changes nothing.
 kept : (ts : List Touch) (at name : List ℕ) (is_source : Bool) → is_touched (ts ++ touch at (not is_source) ∷ []) name is_source ≡ is_touched ts name is_source
 kept ts at name is_source =
-    is_touched-push ts at name (not is_source) is_source ∙ ap (λ b. is_touched ts name is_source || b) (other_way is_source (bytes_eq name at)) ∙ or_false (is_touched ts name is_source) where
+    is_touched-push ts at name (not is_source) is_source ∙ ap (λ b. is_touched ts name is_source || b) (other_way is_source (bytes_eq name at)) ∙ or-false (is_touched ts name is_source) where
       other_way : (way b : Bool) → (b && bool_eq (not way) way) ≡ false
       other_way true true = refl
       other_way true false = refl

@@ -7,3 +7,4 @@ pub mod LoopLemmas
 pub mod SymbolLemmas
 pub mod TermLemmas
 pub mod UnknownLemmas
+pub mod AfterLemmas

@@ -9,7 +9,7 @@ use Rattle.reo_rules.specs.declared.fault.FlatFault.{FlatFault}
 use Rattle.reo_rules.specs.Lists.{each_after}
 use Rattle.reo_rules.specs.Scopes.{connectors_of, connectors_in}
 use Rattle.reo_rules.specs.Judged.{IsFirst}
-use Rattle.reo_rules.proofs.AfterLemmas.{after_more, after_first, more_flat}
+use Rattle.reo_rules_names.proofs.AfterLemmas.{after_more, after_first, more_flat}
 use Rattle.reo_rules_names.specs.declared.connectors.Connectors.{Connectors}
 use Rattle.reo_rules_names.specs.Connectors.{AreConnectors}
 

@@ -1,8 +1,8 @@
 -- Names in lists that grow side by side.
 use Rattle.std.proofs.Common.{◌≡◌, ◌∙◌, ℕ, List, [], ◌∷◌, ◌++◌, Bool, true, false, cond, ◌||◌, refl, sym, ap, bytes_eq}
+use Rattle.std.proofs.Math.Bool.{or-false}
 use Rattle.std.proofs.lemmas.List.Folds.{list_any-append}
 use Rattle.std.proofs.lemmas.Slice.Eq.{bytes_eq-Decides}
-use Rattle.reo_values.proofs.Truths.{or_false}
 use Rattle.reo_rules.specs.Lists.{has_name}
 use Rattle.reo_rules.specs.Names.{with_name}
 use Rattle.reo_rules_names.specs.SameNames.{SameNames}
@@ -15,7 +15,7 @@ has_same xs k n same there = ap (has_name xs) ((bytes_eq-Decides n k).0 same) �
 pub has_name-with : (xs : List (List ℕ)) (k n : List ℕ) → has_name (with_name xs k) n ≡ has_name (xs ++ k ∷ []) n
 has_name-with xs k n = step (has_name xs k) refl where
   there : (e : Bool) → bytes_eq n k ≡ e → has_name xs k ≡ true → has_name xs n ≡ (has_name xs n || (e || false))
-  there false other is = sym (or_false (has_name xs n))
+  there false other is = sym (or-false (has_name xs n))
   there true same is =
       let both = has_same xs k n same is in
       both ∙ sym (ap (λ b. b || (true || false)) both)

@@ -14,7 +14,7 @@ use Rattle.reo_rules.specs.declared.fault.FlatFault.{FlatFault}
 use Rattle.reo_rules.specs.Types.{Typed}
 use Rattle.reo_rules.specs.Terms.{symbols_in}
 use Rattle.reo_rules.specs.Unknown.{unknown_symbol}
-use Rattle.reo_rules.proofs.AfterLemmas.{flat_map-append}
+use Rattle.reo_rules_names.proofs.AfterLemmas.{flat_map-append}
 
 -- The breaks of the symbols in an expression.
 abbrev pub in_term : List Typed → ℕ → TermForm → List FlatFault

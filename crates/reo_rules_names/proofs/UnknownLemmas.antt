@@ -19,7 +19,7 @@ use Rattle.reo_rules.specs.Lists.{each_after, has_name}
 use Rattle.reo_rules.specs.Names.{with_name}
 use Rattle.reo_rules.specs.Scopes.{connectors_of, connectors_in, connector_names}
 use Rattle.reo_rules.specs.Judged.{IsFirst}
-use Rattle.reo_rules.proofs.AfterLemmas.{after_more, after_first, more_flat}
+use Rattle.reo_rules_names.proofs.AfterLemmas.{after_more, after_first, more_flat}
 use Rattle.reo_rules_names.specs.declared.types.DeclaredTypes.{DeclaredTypes}
 use Rattle.reo_rules_names.specs.SameNames.{SameNames}
 use Rattle.reo_rules_names.specs.Symbols.{AreTypes}

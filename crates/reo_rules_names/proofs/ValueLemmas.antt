@@ -1,12 +1,12 @@
 -- Values beside names that grow side by side.
 use Rattle.std.proofs.Common.{arith, ◌≡◌, ◌∙◌, ℕ, ◌+◌, ◌<◌, suc, List, [], ◌∷◌, ◌++◌, length, get_or, Bool, true, false, not, cond, ◌||◌, Some, None, refl, sym, ap, subst, bytes_eq, position}
+use Rattle.std.proofs.lemmas.Bool.{ltb-false}
 use Rattle.std.specs.List.{prefix_len}
 use Rattle.std.specs.Prelude.{slice_get, map}
 use Rattle.std.proofs.lemmas.List.{get_or_past, length-map, map-append}
 use Rattle.std.proofs.lemmas.Option.{get_or_from_slice_get, slice_get-get_or}
 use Rattle.std.proofs.lemmas.List.Quantifiers.{position-Some}
 use Rattle.reo_values.proofs.Sequences.{at_place, at_none}
-use Rattle.reo_values.proofs.Naturals.{not_below}
 use Rattle.reo_rules.specs.Lists.{has_name}
 use Rattle.reo_rules_names.specs.SameNames.{SameNames}
 use Rattle.reo_rules_names.specs.Values.{value_at}
@@ -46,7 +46,7 @@ module _ {V : Type 0} (d : V) (name : List ℕ) where
   -- A name without a number has none.
   pub value_at-None : (ns : List (List ℕ)) (vs : List V) → length ns ≡ length vs → position (bytes_eq name) ns ≡ None → value_at d ns vs name ≡ d
   value_at-None ns vs same is =
-      let past = not_below _ _ (at_none _ _ is) in
+      let past = ltb-false _ _ (at_none _ _ is) in
       value_at-is ns vs same ∙ get_or_past vs _ d (omega (arith, past))
 
   -- A name that is not there has none.

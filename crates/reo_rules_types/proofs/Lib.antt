@@ -18,3 +18,6 @@ pub mod Settled
 pub mod Signatures
 pub mod Standing
 pub mod Ranged
+pub mod AfterLemmas
+pub mod Declared
+pub mod Sequences

@@ -3,7 +3,7 @@ use Rattle.std.proofs.Common.{arith, ◌≡◌, ◌∙◌, ℕ, ◌<◌, zero, s
 use Rattle.std.specs.Map.{keys_of}
 use Rattle.std.proofs.lemmas.List.{append-nil, append_assoc, map-append}
 use Rattle.reo_values.specs.declared.kindred.Kindred.{Kindred}
-use Rattle.reo_values.proofs.Sequences.{left_none}
+use Rattle.reo_rules_types.proofs.Sequences.{left_none}
 use Rattle.reo_trees.specs.declared.types.TypeTerm.{TypeTerm}
 use Rattle.reo_trees.specs.declared.items.Item.{Item}
 use Rattle.reo_trees.specs.declared.items.ItemForm.TheVariants as forms
@@ -12,7 +12,7 @@ use Rattle.reo_rules.specs.Lists.{each_after, has_name}
 use Rattle.reo_rules.specs.Types.{Typed, names_of}
 use Rattle.reo_rules.specs.Scopes.{parameter_names, node_names}
 use Rattle.reo_rules.specs.Twice.{twice_in_parameter, twice_in_item, twice_in_type}
-use Rattle.reo_rules.proofs.AfterLemmas.{right_none, where_false}
+use Rattle.reo_rules_types.proofs.AfterLemmas.{right_none, where_false}
 use Rattle.reo_rules_types.specs.Scoped.{typed}
 use Rattle.reo_rules_types.proofs.Scoped.{names_typed}
 

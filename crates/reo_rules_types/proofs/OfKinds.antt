@@ -1,5 +1,6 @@
 -- Kinds of operators, by number.
 use Rattle.std.proofs.Common.{◌≡◌, ◌∙◌, ◌⊎◌, inl, inr, subst, ℕ, ◌<◌, List, length, Bool, true, false, ◌&&◌, Option, None, Some, refl, sym, ap, slice_get}
+use Rattle.std.specs.Cmp.{both_ways}
 use Rattle.std.specs.Prelude.{option_map, option_and_then, if◌then◌else◌}
 use Rattle.reo_values.specs.declared.kindred.Kindred.{Kindred}
 use Rattle.reo_values.specs.declared.kindred.Kindred.TheVariants as kinds
@@ -7,7 +8,6 @@ use Rattle.reo_exprs.specs.declared.expr.Expr.{Expr}
 use Rattle.reo_exprs.specs.Kinds.{kind_of, joins, is_bool}
 use Rattle.reo_values.specs.declared.operator.Binary.TheVariants as binary
 use Rattle.reo_values.specs.declared.operator.Binary.{Binary}
-use Rattle.reo_values.proofs.Truths.{one_truth}
 use Rattle.reo_exprs.specs.Typing.{binary_kind, if_kind, kind_of_expr}
 use Rattle.reo_exprs.proofs.Choices.{choice_kinded}
 use Rattle.reo_exprs.proofs.Kinded.{join_by_kind}
@@ -29,7 +29,7 @@ use Rattle.reo_rules_types.proofs.Same.{same_self}
 pub join_kinds : (x y : Kindred) → kind_of x ≡ x → kind_of y ≡ y → joins x y ≡ is_same x y
 join_kinds x y f g =
     let told = join_by_kind x y in
-    one_truth (joins x y) (is_same x y)
+    both_ways (joins x y) (is_same x y)
     (λ e. ap (λ k. is_same k y) (sym f ∙ told.0 e ∙ g) ∙ same_self y)
     (λ e. told.1 (ap kind_of (same_types x y e)))
 

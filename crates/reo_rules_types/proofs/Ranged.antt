@@ -1,5 +1,6 @@
 -- Types and expressions out of bounds.
 use Rattle.std.proofs.Common.{arith, ◌≡◌, ◌∙◌, ℕ, ◌+◌, ◌-◌, max, Bool, true, false, not, ◌||◌, Some, List, [], ◌++◌, nat_lt, refl, sym, ap, inr}
+use Rattle.std.specs.Cmp.{both_ways}
 use Rattle.std.specs.Prelude.{IsTrue, ◌↔◌}
 use Rattle.std.specs.List.{flat_map}
 use Rattle.std.proofs.lemmas.Bool.Decides.{nat_tests}
@@ -27,10 +28,9 @@ use Rattle.reo_rules_types.specs.declared.cell.TypeParts.{TypeParts}
 use Rattle.reo_rules_types.specs.declared.cell.TypeParts.TheVariants as cells
 use Rattle.reo_rules_types.specs.Cells.{kindred_of}
 use Rattle.std.proofs.lemmas.Bool.{or_right as or_true}
-use Rattle.reo_values.proofs.Truths.{one_truth}
 
 pub inside_is : (r : Bool) (s t : Kindred) → IsTrue r ↔ LiesInside s t → r ≡ is_inside s t
-inside_is r s t is = let d = inside_told s t in one_truth r (is_inside s t) (λ e. d.1 (is.0 e)) (λ e. is.1 (d.0 e))
+inside_is r s t is = let d = inside_told s t in both_ways r (is_inside s t) (λ e. d.1 (is.0 e)) (λ e. is.1 (d.0 e))
 
 -- How deep a pair is.
 pub depth-Pair : (t : Twins) → depth_of (kinds.Pair t) ≡ 1 + max (depth_of t.left) (depth_of t.right)

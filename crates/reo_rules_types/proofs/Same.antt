@@ -1,14 +1,14 @@
 -- When two types are the same.
 use Rattle.std.proofs.Common.{arith, ◌≡◌, ℤ, true, refl, ◌≤ℤ◌}
+use Rattle.std.proofs.lemmas.Bool.{eq-eqb}
 use Rattle.std.specs.Int.Signed.{le_z}
 use Rattle.std.proofs.lemmas.Int.{ints}
 use denote.Hole.Carrier.{hidden}
 use Rattle.reo_values.specs.declared.kindred.Kindred as kindred
 use Rattle.reo_values.specs.declared.kindred.Kindred.{Kindred}
 use Rattle.reo_values.specs.declared.kindred.Kindred.TheBlock.{hidden-the_row-Twins-0}
-use Rattle.reo_values.proofs.Naturals.{same_eq}
 use Rattle.reo_values.proofs.Tests.{le_z-is}
-use Rattle.reo_exprs.proofs.Joined.{names_match}
+use Rattle.reo_exprs.proofs.JoinCases.{names_decide}
 use Rattle.reo_exprs.proofs.Options.{to_both}
 use Rattle.reo_rules.specs.Types.{int_eq, is_same}
 
@@ -21,6 +21,6 @@ unfolding hidden-the_row-Twins-0 hidden
 same_self kindred.Unit = refl
 same_self kindred.Bool = refl
 same_self (kindred.Int a b) = to_both (int_eq a a) (int_eq b b) (int_same a) (int_same b)
-same_self (kindred.Sym xs) = names_match xs
-same_self (kindred.Text m) = same_eq m m refl
+same_self (kindred.Sym xs) = (names_decide xs xs).1 refl
+same_self (kindred.Text m) = eq-eqb m m refl
 same_self (kindred.Pair' m (kindred.more_of-Twins a b kindred.end_of-Twins)) = to_both (is_same a a) (is_same b b) (same_self a) (same_self b)

@@ -1,11 +1,11 @@
 -- Types that stay the same, whatever is declared behind.
 use Rattle.std.proofs.Common.{◌≡◌, ◌∙◌, ℕ, List, [], ◌∷◌, ◌++◌, map, refl, sym, ap}
+use Rattle.std.proofs.lemmas.Bool.{not-false}
 use Rattle.std.specs.List.{flat_map}
 use Rattle.std.proofs.lemmas.List.{append_assoc}
 use denote.Hole.Carrier.{hidden}
 use Rattle.reo_values.specs.declared.kindred.Kindred.TheVariants as kinds
-use Rattle.reo_values.proofs.Sequences.{left_none}
-use Rattle.reo_values.proofs.Truths.{not_false}
+use Rattle.reo_rules_types.proofs.Sequences.{left_none}
 use Rattle.reo_trees.specs.declared.types.Shape as shape
 use Rattle.reo_trees.specs.declared.types.Shape.{Shape}
 use Rattle.reo_trees.specs.declared.types.Shape.TheBlock.{hidden-the_row-TypePair-0}
@@ -13,8 +13,8 @@ use Rattle.reo_trees.specs.declared.types.TypeTerm.{TypeTerm}
 use Rattle.reo_trees.specs.declared.programs.Parameter.{Parameter}
 use Rattle.reo_rules.specs.Types.{Typed, names_of, resolved, parts_of}
 use Rattle.reo_rules.specs.Unknown.{missing, unknown_in_part, unknown_in_type}
-use Rattle.reo_rules.proofs.AfterLemmas.{right_none, flat_map-append, where_false}
-use Rattle.reo_rules.proofs.Declared.{type_named-append}
+use Rattle.reo_rules_types.proofs.AfterLemmas.{right_none, flat_map-append, where_false}
+use Rattle.reo_rules_types.proofs.Declared.{type_named-append}
 use Rattle.reo_rules_types.specs.Stands.{IsSettled, AreSettled}
 
 -- A written type without an unknown name is settled.
@@ -33,7 +33,7 @@ shape_settled known line (shape.Pair' m (shape.more_of-TypePair k x l y shape.en
       right = shape_settled known l y (right_none (flat_map f (parts_of k x)) (flat_map f (parts_of l y)) parts) more i;
     })
 shape_settled known line (shape.Named name) none more =
-    type_named-append known more name (not_false _ (where_false _ _ (left_none (missing (names_of known) line name) [] none)))
+    type_named-append known more name (not-false _ (where_false _ _ (left_none (missing (names_of known) line name) [] none)))
 
 -- And so are the parameters of a connector.
 pub all_settled : (known : List Typed) (ps : List Parameter) → flat_map (λ (p : Parameter). unknown_in_type (names_of known) p.term) ps ≡ [] → AreSettled known ps

@@ -14,9 +14,9 @@ use Rattle.reo_trees.specs.declared.programs.Declaration.{Declaration}
 use Rattle.reo_trees.specs.declared.programs.Declaration.TheVariants as declarations
 use Rattle.reo_rules.specs.Types.{Typed, resolved, types_of}
 use Rattle.reo_rules.specs.Scopes.{connectors_of, connectors_in, parameters_named}
-use Rattle.reo_rules.proofs.AfterLemmas.{flat_map-append}
+use Rattle.reo_rules_types.proofs.AfterLemmas.{flat_map-append}
 use Rattle.reo_rules.proofs.Mapped.{position-map}
-use Rattle.reo_rules.proofs.Declared.{types_after-append}
+use Rattle.reo_rules_types.proofs.Declared.{types_after-append}
 use Rattle.reo_rules_types.specs.Cells.{Keeps}
 use Rattle.reo_rules_types.specs.Signed.{AreOf, parameter_types}
 use Rattle.reo_rules_types.specs.Stands.{AreSettled, AreSigned}

@@ -2,16 +2,13 @@
 use Rattle.std.proofs.Common.{◌≡◌, ◌∙◌, ℕ, ◌<◌, ℤ, Bool, true, ◌&&◌, ◌==◌, ap, sym, refl, List, [], ◌∷◌, map, Some, length, slice_get, arith, bytes_eq}
 use Rattle.std.specs.Ordering.{int_eq}
 use Rattle.std.specs.Cmp.Lexicographic.{pointwise}
-use Rattle.std.proofs.lemmas.Bool.{false≢true}
+use Rattle.std.proofs.lemmas.Bool.{false≢true, and_parts, eqb-true, eq-eqb}
 use Rattle.std.proofs.lemmas.Bool.Decides.{Decides-int_eq}
 use Rattle.std.proofs.lemmas.Option.{slice_get-get_or}
 use Rattle.reo_values.specs.declared.kindred.Kindred.{Kindred}
 use Rattle.reo_values.specs.declared.kindred.Kindred.TheVariants as kinds
 use Rattle.reo_values.specs.declared.kindred.Twins.{Twins}
-use Rattle.reo_values.proofs.Truths.{and_both}
-use Rattle.reo_values.proofs.Naturals.{eq_same, same_eq}
-use Rattle.reo_exprs.proofs.JoinCases.{names_same}
-use Rattle.reo_exprs.proofs.Joined.{names_match}
+use Rattle.reo_exprs.proofs.JoinCases.{names_decide}
 use Rattle.reo_exprs.proofs.Options.{to_both}
 use Rattle.reo_exprs.proofs.Steps.{kind_parts}
 use Rattle.reo_exprs.proofs.Same.{int_told}
@@ -38,14 +35,14 @@ pub alike : (types : List Kindred) (c d : TypeParts) → cell_eq c d ≡ true �
 alike types cells.Unit cells.Unit e = refl
 alike types cells.Bool cells.Bool e = refl
 alike types (cells.Int a b) (cells.Int c d) e =
-    let h = and_both (int_eq a c) (int_eq b d) e in
+    let h = and_parts (int_eq a c) (int_eq b d) e in
     λ i. kinds.Int (int_told a c h.0 i) (int_told b d h.1 i)
 alike types (cells.Sym xs) (cells.Sym ys) e =
-    ap kinds.Sym (names_same (map (λ v. v.items) xs.items) (map (λ v. v.items) ys.items) (pointwise-map (λ v. v.items) bytes_eq xs.items ys.items ∙ e))
-alike types (cells.Text m) (cells.Text n) e = ap kinds.Text (eq_same m n e)
+    ap kinds.Sym ((names_decide (map (λ v. v.items) xs.items) (map (λ v. v.items) ys.items)).0 (pointwise-map (λ v. v.items) bytes_eq xs.items ys.items ∙ e))
+alike types (cells.Text m) (cells.Text n) e = ap kinds.Text (eqb-true m n e)
 alike types (cells.Pair a b) (cells.Pair c d) e =
-    let h = and_both (a == c) (b == d) e in
-    λ i. kinds.Pair (record { left = type_at types (eq_same a c h.0 i); right = type_at types (eq_same b d h.1 i) })
+    let h = and_parts (a == c) (b == d) e in
+    λ i. kinds.Pair (record { left = type_at types (eqb-true a c h.0 i); right = type_at types (eqb-true b d h.1 i) })
 alike types _ _ e = absurd (false≢true e)
 
 -- The parts of a type.
@@ -77,11 +74,11 @@ module _ (types : List Kindred) (once : (m n : ℕ) (k : Kindred) → slice_get 
   told (cells.Int a b) (cells.Int c d) p q e =
       to_both (int_eq a c) (int_eq b d) (int_same a c (ap (λ k. low_of k a) e)) (int_same b d (ap (λ k. high_of k b) e))
   told (cells.Sym xs) (cells.Sym ys) p q e =
-      sym (pointwise-map (λ v. v.items) bytes_eq xs.items ys.items) ∙ ap (λ ns. pointwise bytes_eq ns (map (λ v. v.items) ys.items)) (ap names_in e) ∙ names_match (map (λ v. v.items) ys.items)
-  told (cells.Text m) (cells.Text n) p q e = same_eq m n (ap most_in e)
+      sym (pointwise-map (λ v. v.items) bytes_eq xs.items ys.items) ∙ ap (λ ns. pointwise bytes_eq ns (map (λ v. v.items) ys.items)) (ap names_in e) ∙ (names_decide (map (λ v. v.items) ys.items) (map (λ v. v.items) ys.items)).1 refl
+  told (cells.Text m) (cells.Text n) p q e = eq-eqb m n (ap most_in e)
   told (cells.Pair a b) (cells.Pair c d) p q e =
       let x : Twins = record { left = type_at types a; right = type_at types b } in
       let y : Twins = record { left = type_at types c; right = type_at types d } in
       let h = kind_parts x y e in
-      to_both (a == c) (b == d) (same_eq a c (same_at a c p.0 q.0 (ap (λ t. t.left) h))) (same_eq b d (same_at b d p.1 q.1 (ap (λ t. t.right) h)))
+      to_both (a == c) (b == d) (eq-eqb a c (same_at a c p.0 q.0 (ap (λ t. t.left) h))) (eq-eqb b d (same_at b d p.1 q.1 (ap (λ t. t.right) h)))
   told _ _ p q e = absurd (cc)

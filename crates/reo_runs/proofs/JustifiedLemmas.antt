@@ -14,7 +14,8 @@ use Rattle.reo_rounds.specs.Rules.{Rules}
 use Rattle.reo_runs.specs.Round.{State, RoundOf, net_ready}
 use Rattle.reo_runs.specs.Run.{Place, Leads, IsRun, place_after, firsts}
 use Rattle.reo_runs.specs.Justified.{IsJustified, justified}
-use Rattle.reo_rounds.proofs.OrderLemmas.{KeepsShape, ready_wired, round_wired}
+use Rattle.reo_rounds.specs.Lasting.{KeepsShape}
+use Rattle.reo_rounds.proofs.OrderLemmas.{ready_wired, round_wired}
 
 module _ {P : Type 0} (r : Rules P) (k : KeepsShape r) (budget limit : ℕ) (flows : FirstFlows) (cause : FirstJamsForCause) (still : IdleMeansNoFlow) where
   first_justified : (net : Net) → IsWired net → (turn : ℕ) (rows : List ℕ) (items : List (Option Value)) → IsFirst net turn rows items → IsJustified net turn rows items

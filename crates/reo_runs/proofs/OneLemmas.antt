@@ -18,7 +18,8 @@ use Rattle.reo_rounds.proofs.RoundLemmas.{suits_also, one_round}
 use Rattle.reo_runs.specs.Round.{State, RoundOf, net_ready, advanced}
 use Rattle.reo_runs.specs.Run.{Place, Leads, EndsAs, place_after, firsts}
 use Rattle.reo_runs.specs.Whole.{HasOneRun}
-use Rattle.reo_rounds.proofs.OrderLemmas.{KeepsShape, ready_order, round_order}
+use Rattle.reo_rounds.specs.Lasting.{KeepsShape}
+use Rattle.reo_rounds.proofs.OrderLemmas.{ready_order, round_order}
 
 module _ (budget limit : ℕ) (one_cause : CauseIsOne) where
   -- In place of one round stands one ending.

@@ -16,7 +16,8 @@ use Rattle.reo_rounds.proofs.RoundLemmas.{round_exists}
 use Rattle.reo_runs.specs.Round.{State, Choosing, RoundOf, net_ready, advanced}
 use Rattle.reo_runs.specs.Run.{Place, Leads, EndsAs, HasBegun, place_after, firsts}
 use Rattle.reo_runs.specs.Whole.{GoesOn, HasRun}
-use Rattle.reo_rounds.proofs.OrderLemmas.{KeepsShape, ready_order, round_order}
+use Rattle.reo_rounds.specs.Lasting.{KeepsShape}
+use Rattle.reo_rounds.proofs.OrderLemmas.{ready_order, round_order}
 use Rattle.reo_weights.specs.Laws.{OverIsDecided}
 
 module _ {P : Type 0} (C : Choosing) (r : Rules P) where

@@ -1,9 +1,8 @@
 -- The first rows of a part are the same in circuits that are alike there.
 use Rattle.std.proofs.Common.{◌≡◌, inl, inr, ℕ, zero, suc, ◌+◌, ◌<◌, Bool, true, List, [], ◌∷◌, length, get_or, refl, ap, sym, ◌∙◌, subst, arith}
+use Rattle.std.proofs.lemmas.Bool.{eqb-true, or_cases}
 use Rattle.std.specs.Bool.{◌==◌}
 use Rattle.std.specs.List.{filter, range_with_len}
-use Rattle.reo_values.proofs.Naturals.{eq_same}
-use Rattle.reo_values.proofs.Truths.{either}
 use Rattle.reo_net_base.specs.declared.joint.Joint.{Joint}
 use Rattle.reo_net_base.specs.Behaviour.{Behaviour}
 use Rattle.reo_net_base.specs.Net.{Net}
@@ -32,8 +31,8 @@ rows_same (s ∷ ss) a b same =
 
 range_below : (a n s : ℕ) → among (range_with_len a n) s ≡ true → s < a + n
 range_below a zero s h = cc
-range_below a (suc n) s h = elim (either (a == s) (among (range_with_len (a + 1) n) s) h) [
-  | inl here ↦ let e : a ≡ s = eq_same a s here in omega (arith, e)
+range_below a (suc n) s h = elim (or_cases (a == s) (among (range_with_len (a + 1) n) s) h) [
+  | inl here ↦ let e : a ≡ s = eqb-true a s here in omega (arith, e)
   | inr there ↦ let lt : s < (a + 1) + n = range_below (a + 1) n s there in omega (arith, lt)
 ]
 

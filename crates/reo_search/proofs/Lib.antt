@@ -1,4 +1,4 @@
 pub mod Named
-pub mod Searched
+pub mod KnotSearch
 pub mod Isolating
 pub mod Walked

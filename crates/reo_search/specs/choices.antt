@@ -1,4 +1,4 @@
 pub mod Remaining
 pub mod Trying
 pub mod Best
-pub mod Searched
+pub mod KnotSearch

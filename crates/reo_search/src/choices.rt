@@ -3,10 +3,10 @@
 mod best;
 mod choices;
 mod kept;
-mod searched;
+mod knot_search;
 mod trying;
 mod weighing;
 
 pub(crate) use choices::first_over;
-pub(crate) use searched::Searched;
+pub(crate) use knot_search::KnotSearch;
 pub(crate) use weighing::{narrow_all, weight_of};

@@ -12,11 +12,11 @@ ghost use Rattle.reo_propagate.specs.Basis.{IsSearchOn};
 ghost use Rattle.reo_walk.specs.Wanted.{IsWanted, in_wanted};
 ghost use Rattle.reo_search.specs.choices.Remaining.{choices_of};
 ghost use Rattle.reo_search.specs.choices.Trying.{IsLeastOf, MayRestartOn};
-ghost use Rattle.reo_search.specs.choices.Searched.{IsSearched, IsLeftIn, inside_of, names_in};
+ghost use Rattle.reo_search.specs.choices.KnotSearch.{IsSearched, IsLeftIn, inside_of, names_in};
 ghost use Rattle.reo_search.specs.Tables.{AreBegun};
 ghost use Rattle.reo_search.specs.First.{IsFirstWithin, IsSearchFault, HasNoThreeColouring};
 
-use crate::choices::{Searched, first_over, narrow_all, weight_of};
+use crate::choices::{KnotSearch, first_over, narrow_all, weight_of};
 use crate::tables::Tables;
 use crate::widths::has_wide;
 use reo_knots::Knots;
@@ -36,7 +36,7 @@ use std::sync::ledger::Ledger;
 /// The numbers of the first assignment. It ticks at most once for each choice of what is left at
 /// the loop joints. `NoMemory` is out of memory.
 fn first_numbers<P: Primitive, L: Ledger>(
-    searched: &Searched<'_, P>,
+    searched: &KnotSearch<'_, P>,
     state: &mut State,
     left: &List<List<usize>>,
     steps: &mut Steps<L>,
@@ -154,7 +154,7 @@ pub fn first_on<P: Primitive, L: Ledger>(
         });
     }
     let places = places_of(alloc, wanted.circuit, sides)?;
-    let searched = Searched {
+    let searched = KnotSearch {
         alloc,
         basis: &basis,
         sides,

@@ -4,3 +4,4 @@ pub mod Readied
 pub mod Staying
 pub mod Sorted
 pub mod PartSets
+pub mod Among

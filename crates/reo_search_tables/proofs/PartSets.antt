@@ -1,16 +1,16 @@
 -- The sides of a part, as a list and as a set.
 use Rattle.std.proofs.Common.{◌≡◌, ◌≢◌, ℕ, ◌+◌, ◌<◌, Bool, true, List, [], length, get_or, ap, sym, ◌∙◌, subst, arith}
+use Rattle.std.specs.Cmp.{both_ways}
+use Rattle.std.proofs.lemmas.Bool.{and_parts, eqb-true, ltb-true}
 use Rattle.std.specs.Prelude.{◌==◌, nat_lt}
 use Rattle.std.specs.List.{range_with_len}
-use Rattle.reo_values.proofs.Truths.{and_left, and_right, one_truth}
-use Rattle.reo_values.proofs.Naturals.{eq_same, true_lt}
 use Rattle.reo_net_base.specs.Net.{Net}
 use Rattle.reo_net_base.specs.Sides.{side_count}
 use Rattle.reo_net_base.specs.Wired.{IsWired}
 use Rattle.reo_net_laws.specs.Sublists.{sides_in}
 use Rattle.reo_net_laws.specs.Knots.{Knotted, AreKnots, in_knot, knot_count}
 use Rattle.reo_propagate.specs.Queues.{among}
-use Rattle.reo_propagate.proofs.Among.{among_filter, into_filter, among_range}
+use Rattle.reo_search_tables.proofs.Among.{among_filter, into_filter, among_range}
 use Rattle.reo_search_tables.specs.SearchTables.{AreApart}
 use Rattle.reo_search_tables.specs.Orders.{AreJointsOf, AreOrders}
 use Rattle.reo_search_tables.proofs.Sorted.{not_other, orders_are_of_parts}
@@ -19,11 +19,11 @@ module _ (net : Net) (knots : Knotted) (are : AreKnots net knots) (part : ℕ) (
   -- A side of a part is one of the circuit.
   real : (s : ℕ) → in_knot knots.numbers part s ≡ true → s < side_count net
   real s h =
-      let under = true_lt s (length knots.numbers) (and_left (nat_lt s (length knots.numbers)) (get_or knots.numbers s 0 == part) h) in
+      let under = ltb-true s (length knots.numbers) ((and_parts (nat_lt s (length knots.numbers)) (get_or knots.numbers s 0 == part) h).0) in
       omega (arith, under, are.numbered.one_each)
 
   among_part : (s : ℕ) → among (sides_in net (in_knot knots.numbers part)) s ≡ in_knot knots.numbers part s
-  among_part s = one_truth (among (sides_in net (in_knot knots.numbers part)) s) (in_knot knots.numbers part s)
+  among_part s = both_ways (among (sides_in net (in_knot knots.numbers part)) s) (in_knot knots.numbers part s)
       (λ h. (among_filter (in_knot knots.numbers part) (range_with_len 0 (side_count net)) s h).0)
       (λ h. into_filter (in_knot knots.numbers part) (range_with_len 0 (side_count net)) s h
       (subst (λ (k : ℕ). among (range_with_len 0 (side_count net)) k ≡ true) (let z : 0 + s ≡ s = omega arith in z) (among_range 0 (side_count net) s (real s h))))
@@ -45,4 +45,4 @@ module _ (net : Net) (knots : Knotted) (are : AreKnots net knots) (part : ℕ) (
   pub part_apart : (sides : List ℕ) → sides ≡ get_or knots.sides part [] → (k : ℕ) → k ≢ part → AreApart (among sides) (in_knot knots.numbers k)
   part_apart sides is k ne s h =
       let mine : in_knot knots.numbers part s ≡ true = sym (λ i. is_part sides is i s) ∙ h in
-      not_other knots.numbers k s (λ e. ne (e ∙ eq_same (get_or knots.numbers s 0) part (and_right (nat_lt s (length knots.numbers)) (get_or knots.numbers s 0 == part) mine)))
+      not_other knots.numbers k s (λ e. ne (e ∙ eqb-true (get_or knots.numbers s 0) part ((and_parts (nat_lt s (length knots.numbers)) (get_or knots.numbers s 0 == part) mine).1)))

@@ -9,12 +9,11 @@ use Rattle.reo_net_laws.specs.Knots.{in_knot}
 use Rattle.reo_joint_values.specs.Standing.{no_joint, giver_of}
 use Rattle.reo_search_tables.specs.SearchTables.{IsSideRight, IsJointRight}
 use Rattle.reo_search_tables.specs.Laws.{ReadyTablesAreRight, RightPartsAreReady}
-use Rattle.std.proofs.lemmas.Bool.{and_from as both}
-use Rattle.reo_values.proofs.Naturals.{lt_true, same_eq}
+use Rattle.std.proofs.lemmas.Bool.{and_from as both, lt-ltb, eq-eqb}
 
 -- A side has the number of its own part.
 pub in_own : (numbers : List ℕ) (s : ℕ) → s < length numbers → in_knot numbers (get_or numbers s 0) s ≡ true
-in_own numbers s lt = both (nat_lt s (length numbers)) (get_or numbers s 0 == get_or numbers s 0) (lt_true s (length numbers) lt) (same_eq (get_or numbers s 0) (get_or numbers s 0) refl)
+in_own numbers s lt = both (nat_lt s (length numbers)) (get_or numbers s 0 == get_or numbers s 0) (lt-ltb s (length numbers) lt) (eq-eqb (get_or numbers s 0) (get_or numbers s 0) refl)
 
 -- A joint starts at a side of the circuit.
 pub starts : (net : Net) → IsWired net → (j : ℕ) → j < length net.joints → side_at net (giver_of net j) < side_count net

@@ -5,7 +5,7 @@ use Rattle.std.proofs.lemmas.Bool.{both_ways}
 use Rattle.std.proofs.lemmas.Bool.Decides.{eqb_tells}
 use Rattle.std.proofs.lemmas.List.{get_or_default, length-set, length-replicate}
 use Rattle.reo_propagate.specs.Queues.{among}
-use Rattle.reo_propagate.proofs.Among.{among_at, among_stands}
+use Rattle.reo_search_tables.proofs.Among.{among_at, among_stands}
 use Rattle.reo_search_tables.specs.Renewing.{StaysBesides, AreRightAt}
 
 -- A list stays but at one place.

@@ -17,7 +17,7 @@ use Rattle.reo_reach.specs.Supplied.{Supplied, items_at, AreShort, HasPlaces, Is
 use Rattle.reo_joint_values.specs.Many.{IsJointIn}
 use Rattle.reo_reach.proofs.StayLemmas.{reached_stays}
 use Rattle.reo_propagate.specs.Queues.{among}
-use Rattle.reo_propagate.proofs.Among.{among_stands}
+use Rattle.reo_search_tables.proofs.Among.{among_stands}
 use Rattle.reo_rows.specs.declared.groups.Group.{Group}
 use Rattle.reo_search_tables.specs.declared.tables.SearchTables.{SearchTables}
 use Rattle.reo_search_tables.specs.SearchTables.{HasRoom, IsSideRight, IsJointRight, AreRightOn, AreApart}

@@ -20,14 +20,12 @@ use Rattle.reo_joint_values.specs.Standing.{no_joint, giver_of}
 use Rattle.reo_joint_values.specs.Many.{IsJointIn}
 use Rattle.reo_reach.proofs.PartLemmas.{parts_in_order}
 use Rattle.reo_propagate.specs.Queues.{among}
-use Rattle.reo_propagate.proofs.Among.{among_at, among_filter, into_filter}
+use Rattle.reo_search_tables.proofs.Among.{among_at, among_filter, into_filter}
 use Rattle.reo_search_tables.specs.Orders.{AreJointsOf, AreOrders}
 use Rattle.reo_search_tables.specs.Laws.{OrdersAreOfParts, OrdersStay}
 use Rattle.reo_search_tables.proofs.Renewed.{contains_among, among_contains}
 use Rattle.reo_search_tables.proofs.Readied.{in_own}
-use Rattle.std.proofs.lemmas.Bool.{false_from_ne_true as not_true}
-use Rattle.reo_values.proofs.Truths.{and_right}
-use Rattle.reo_values.proofs.Naturals.{eq_same}
+use Rattle.std.proofs.lemmas.Bool.{false_from_ne_true as not_true, and_parts, eqb-true}
 use Rattle.reo_values.proofs.Sequences.{filter_same}
 
 -- For each part those of the first n joints of an order that are its.
@@ -41,7 +39,7 @@ none_picked net numbers order count orders are = record { one_each = are.one_eac
 
 -- A side has the number of no other part.
 pub not_other : (numbers : List ℕ) (k s : ℕ) → k ≢ get_or numbers s 0 → in_knot numbers k s ≡ false
-not_other numbers k s ne = not_true (in_knot numbers k s) (λ h. ne (sym (eq_same (get_or numbers s 0) k (and_right (nat_lt s (length numbers)) (get_or numbers s 0 == k) h))))
+not_other numbers k s ne = not_true (in_knot numbers k s) (λ h. ne (sym (eqb-true (get_or numbers s 0) k ((and_parts (nat_lt s (length numbers)) (get_or numbers s 0 == k) h).1))))
 
 -- One joint more came to its part.
 pub more_picked : (net : Net) (numbers order : List ℕ) (n count part joint : ℕ) (old new : List (List ℕ)) → n < length order → joint ≡ get_or order n 0 → part ≡ get_or numbers (side_at net (giver_of net joint)) 0

@@ -1,13 +1,11 @@
 -- Tables that are kept, and what is looked up.
 use Rattle.std.proofs.Common.{◌≡◌, ◌∙◌, inl, inr, ℕ, ◌+◌, ◌*◌, ◌<◌, ◌≤◌, ◌≢◌, Bool, true, false, Some, None, Option, List, length, get_or, ap, sym, subst, arith}
 use Rattle.std.specs.Prelude.{Result, Ok, Err, OnErr}
-use Rattle.std.proofs.lemmas.Bool.{cases_Bool, cases_lt}
-use Rattle.reo_values.proofs.Truths.{not_both}
+use Rattle.std.proofs.lemmas.Bool.{cases_Bool, cases_lt, both_ways, cases_eq}
 use Rattle.reo_flags.specs.Next.{IsNext}
 use Rattle.reo_flags.specs.Where.{AreKeptWhere}
 use Rattle.reo_net_base.specs.Net.{Net, first_side}
 use Rattle.reo_net_base.specs.Wired.{IsWired}
-use Rattle.reo_net_circuit.proofs.Cases.{eq_cases}
 use Rattle.reo_net_circuit.specs.found_ends.Ends.{AreEnds}
 use Rattle.reo_net_laws.specs.Knots.{Knotted, AreKnots, in_knot, knot_count}
 use Rattle.reo_search_tables.specs.declared.tables.SearchTables.{SearchTables}
@@ -109,7 +107,7 @@ told_is net knots kept lookups steady told = record {
 
 -- What is steady and not told.
 pub untold_is : (net : Net) (knots : Knotted) (kept : Kept) (lookups : Lookups) → AreSteady net knots lookups → lookups.told ≡ false → AreLookups net knots kept lookups
-untold_is net knots kept lookups steady untold = steady_is net knots kept lookups steady (λ told. absurd (not_both lookups.told untold told))
+untold_is net knots kept lookups steady untold = steady_is net knots kept lookups steady (λ told. absurd (both_ways lookups.told untold told))
 
 pub refused_by : {X E R : Type 0} (r : Result X E) → R → OnErr r R
 refused_by (Ok x) h = tt
@@ -127,7 +125,7 @@ fresh_tables net knots kept old new one_each fewer (Some tables) may = record {
 pub fresh_kept : (kept : Kept) (old new : List Bool) → AreKeptWhere true kept.settled old new → (k : ℕ) → is_fresh new k ≡ true → (is_fresh old k ≡ true) × (is_settled kept k ≡ true)
 fresh_kept kept old new are k h = elim (cases_Bool (is_settled kept k)) [
   | inl settled ↦ (sym (are.kept k settled) ∙ h, settled)
-  | inr open_ ↦ absurd (not_both (is_fresh new k) (are.gone k open_) h)
+  | inr open_ ↦ absurd (both_ways (is_fresh new k) (are.gone k open_) h)
 ]
 
 -- Where the tables of parts that are not settled are forgotten, what is looked up is steady.
@@ -148,7 +146,7 @@ forgotten_steady net knots kept old told new untold are is =
     let now : AreLookups net knots kept (record old { told = told }) = record {
       orders = are.orders;
       one_list = are.one_list;
-      flowing = λ yes_. absurd (not_both told untold yes_);
+      flowing = λ yes_. absurd (both_ways told untold yes_);
       one_each = are.one_each;
       tables = are.tables;
       bounds = are.bounds;
@@ -184,7 +182,7 @@ renewed_more net knots fresh n old new n_in far room right others = record {
 }
   where
     by : (k : ℕ) → (k ≢ n → AreRightOn net (in_knot knots.numbers k) new) → AreRightOn net (in_knot knots.numbers k) new
-    by k other = elim (eq_cases k n) [ inl e ↦ subst (λ (m : ℕ). AreRightOn net (in_knot knots.numbers m) new) (sym e) right | inr ne ↦ other ne ]
+    by k other = elim (cases_eq k n) [ inl e ↦ subst (λ (m : ℕ). AreRightOn net (in_knot knots.numbers m) new) (sym e) right | inr ne ↦ other ne ]
 
 -- What is right up to a part is right up to the next that is not fresh.
 pub renewed_next : (net : Net) (knots : Knotted) (fresh : List Bool) (n next : ℕ) (tables : SearchTables) → next ≤ knot_count knots → IsNext false fresh n next → AreRenewed net knots fresh n tables → AreRenewed net knots fresh next tables

@@ -1,5 +1,6 @@
 -- Lists of the joints that flow, part by part.
 use Rattle.std.proofs.Common.{◌≡◌, ◌≢◌, ◌∙◌, inl, inr, ℕ, ◌+◌, ◌<◌, ◌≤◌, Bool, true, List, [], length, get_or, get_or-set_same, get_or-set_other, set, refl, ap, sym, subst, arith}
+use Rattle.std.proofs.lemmas.Bool.{cases_eq}
 use Rattle.std.proofs.lemmas.List.{length-set}
 use Rattle.std.proofs.lemmas.List.Elements.{Contains-get_or}
 use Rattle.reo_net_base.specs.Behaviour.{Behaviour}
@@ -7,7 +8,6 @@ use Rattle.reo_net_base.specs.declared.joint.End.{End}
 use Rattle.reo_net_base.specs.Net.{Net, all_sides, behaviour_at, first_side, mark_at, row_count, side_at}
 use Rattle.reo_net_base.specs.Sides.{side_count}
 use Rattle.reo_net_base.specs.Wired.{IsWired, IsEnd}
-use Rattle.reo_net_circuit.proofs.Cases.{eq_cases}
 use Rattle.reo_net_circuit.proofs.ReshapeLemmas.{first_same}
 use Rattle.reo_net_laws.proofs.Sides.{side_at_place}
 use Rattle.reo_net_laws.specs.Knots.{Knotted, AreKnots, in_knot, knot_count}
@@ -55,7 +55,7 @@ pub listed_more : (net : Net) → IsWired net → (knots : Knotted) (kept : Kept
     → IsPartPlanned budget net knots turn n rows new → IsListedAt n old now → AreFlowingOf net (in_knot knots.numbers n) new (get_or now.flowing n []) → IsListedFar net knots kept told (n + 1) new now.flowing
 listed_more net wired knots kept told budget turn n rows new old now far more at here = record {
   one_each = at.one_each ∙ far.one_each;
-  done = λ k lt. elim (eq_cases k n) [
+  done = λ k lt. elim (cases_eq k n) [
     | inl e ↦ subst (λ (m : ℕ). AreFlowingOf net (in_knot knots.numbers m) new (get_or now.flowing m [])) (sym e) here
     | inr ne ↦
         subst (AreFlowingOf net (in_knot knots.numbers k) new) (sym (at.others k ne))

@@ -1,10 +1,9 @@
 -- Parts that serve and are told are passed over.
 use Rattle.std.proofs.Common.{◌≡◌, inl, inr, ℕ, zero, suc, ◌+◌, ◌-◌, ◌<◌, ◌≤◌, Bool, true, List, [], get_or, subst, sym, arith}
+use Rattle.std.proofs.lemmas.Bool.{and_parts, cases_eq}
 use Rattle.std.specs.Prelude.{nat_le}
-use Rattle.reo_values.proofs.Truths.{and_right}
 use Rattle.reo_net_base.specs.Net.{Net}
 use Rattle.reo_net_base.specs.Wired.{IsWired}
-use Rattle.reo_net_circuit.proofs.Cases.{eq_cases}
 use Rattle.reo_net_laws.specs.Knots.{Knotted, AreKnots, in_knot, knot_count}
 use Rattle.reo_flows.specs.flowing.Flowing.{AreFlowingOf}
 use Rattle.reo_part_plans.specs.Plannings.{Kept, IsKept, is_settled, serves}
@@ -23,14 +22,14 @@ module _ (budget : ℕ) (net : Net) (wired : IsWired net) (knots : Knotted) (are
     here : AreFlowingOf net (in_knot knots.numbers n) rows (get_or lists n [])
     here =
         flowing_same net wired (in_knot knots.numbers n) kept.rows rows (λ s s_in h. far.planned.rest n s (omega arith) h) (get_or lists n [])
-        (far.listed.rest yes_ n (omega arith) lt (and_right (nat_le kept.budget budget) (is_settled kept n) serve))
+        (far.listed.rest yes_ n (omega arith) lt ((and_parts (nat_le kept.budget budget) (is_settled kept n) serve).1))
 
     settled_one : AreSettledFar budget net knots turn kept told (n + 1) rows lists
     settled_one = record {
       planned = planned_more budget net knots turn n kept.rows rows rows far.planned (served budget net knots are turn n lt kept rows is serve (λ s h. far.planned.rest n s (omega arith) h));
       listed = record {
         one_each = far.listed.one_each;
-        done = λ k below. elim (eq_cases k n) [
+        done = λ k below. elim (cases_eq k n) [
           | inl e ↦ subst (λ (m : ℕ). AreFlowingOf net (in_knot knots.numbers m) rows (get_or lists m [])) (sym e) here
           | inr ne ↦ far.listed.done k (omega (arith, below, ne))
         ];

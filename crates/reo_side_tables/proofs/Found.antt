@@ -1,8 +1,7 @@
 -- The joints at the ends of a side.
 use Rattle.std.proofs.Common.{◌≡◌, ◌≢◌, inl, inr, ℕ, ◌+◌, ◌<◌, Bool, true, false, cond, List, [], ◌∷◌, ◌++◌, length, get_or, refl, ap, sym, ◌∙◌, subst, arith}
 use Rattle.std.specs.Bool.{◌==◌}
-use Rattle.std.proofs.lemmas.Bool.{cases_eq}
-use Rattle.reo_values.proofs.Naturals.{same_eq, other_eq}
+use Rattle.std.proofs.lemmas.Bool.{cases_eq, eq-eqb, ne_eqb}
 use Rattle.reo_net_base.specs.declared.joint.End.{End}
 use Rattle.reo_net_base.specs.Net.{Net, behaviour_at, first_side, end_of, side_at}
 use Rattle.reo_net_base.specs.Wired.{IsWired}
@@ -62,11 +61,11 @@ module _ (net : Net) (wired : IsWired net) (ends : List (List ℕ)) (are : AreEn
       let j : ℕ = joint_at ends (end_of i e) in
       let taker : (joint_of net j).taker ≡ end_of i e = taker_at net wired ends are (end_of i e) no_joint (record { is_end = (i_in, e_in); takes = takes }) in
       let apart : giver_side net j ≢ side = λ same. wired.apart j no_joint (are.in_range (end_of i e) (i_in, e_in)) (same ∙ sym (ap (side_at net) taker ∙ side_of_end e e_in here)) in
-      ap (λ (b : Bool). cond b (joint_of net j).giver (joint_of net j).taker) (other_eq (giver_side net j) side apart) ∙ taker
+      ap (λ (b : Bool). cond b (joint_of net j).giver (joint_of net j).taker) (ne_eqb (giver_side net j) side apart) ∙ taker
   end_for e e_in here false gives =
       let j : ℕ = joint_at ends (end_of i e) in
       let giver : (joint_of net j).giver ≡ end_of i e = giver_at net wired ends are (end_of i e) no_joint (record { is_end = (i_in, e_in); gives = gives }) in
-      ap (λ (b : Bool). cond b (joint_of net j).giver (joint_of net j).taker) (same_eq (giver_side net j) side (ap (side_at net) giver ∙ side_of_end e e_in here)) ∙ giver
+      ap (λ (b : Bool). cond b (joint_of net j).giver (joint_of net j).taker) (eq-eqb (giver_side net j) side (ap (side_at net) giver ∙ side_of_end e e_in here)) ∙ giver
 
   -- Two ends of the side have two joints.
   other_joint : (e n : ℕ) → e < n → n < (behaviour_at net.primitives i).ends → (behaviour_at net.primitives i).side_of e ≡ s → (behaviour_at net.primitives i).side_of n ≡ s → joint_at ends (end_of i e) ≢ joint_at ends (end_of i n)

@@ -2,13 +2,10 @@
 use Rattle.std.proofs.Common.{◌≡◌, ◌≢◌, ◌⊎◌, inl, inr, ℕ, zero, suc, ◌<◌, ◌≤◌, Bool, true, cond, refl, ap, sym, ◌∙◌, subst, arith}
 use Rattle.std.specs.Bool.{◌==◌}
 use Rattle.std.specs.Prelude.{◌||◌}
-use Rattle.std.proofs.lemmas.Bool.{cases_eq, cases_Bool, cond-true, cond-false}
-use Rattle.reo_net_laws.proofs.Sides.{below_or}
+use Rattle.std.proofs.lemmas.Bool.{cases_eq, cases_Bool, cond-true, cond-false, eqb-true, eq-eqb, ne_eqb, or_cases, cases_lt}
 use Rattle.reo_support.proofs.Labels.{label, label_joins, label_stays, label_along, label_before}
 use Rattle.reo_support.proofs.Labels.Before.{one, down, up}
 use Rattle.std.proofs.lemmas.Bool.{or_left as either_left, or_right as either_right}
-use Rattle.reo_values.proofs.Naturals.{eq_same, same_eq, other_eq}
-use Rattle.reo_values.proofs.Truths.{either}
 
 -- A joint comes from a side or goes there.
 abbrev pub At : (ℕ → ℕ) → (ℕ → ℕ) → ℕ → ℕ → Type 0
@@ -91,7 +88,7 @@ module _ (V : Type 0) (count : ℕ) (giver taker : ℕ → ℕ) (Fits : (ℕ →
     agree : (i b d : ℕ) → i < count → At giver taker i b → label giver taker n b ≡ label giver taker n a → At giver taker i d → label giver taker n d ≡ label giver taker n far → f.choice i ≡ g.choice i
     agree i b d i_in at_b b_is at_d d_is =
         let split : label giver taker n b ≢ label giver taker n d = λ e. apart (sym d_is ∙ sym e ∙ b_is) in
-        elim (below_or i n) [
+        elim (cases_lt i n) [
           | inl earlier ↦ absurd (split (at_joined giver taker i b d (λ k. label giver taker n k) at_b at_d (label_along giver taker i n earlier)))
           | inr from_n ↦ elim (cases_eq i n) [
             | inl here ↦ subst (λ (k : ℕ). f.choice k ≡ g.choice k) (sym here) (f.same n n_in at_far ∙ o.chosen)
@@ -111,16 +108,16 @@ module _ (V : Type 0) (count : ℕ) (giver taker : ℕ → ℕ) (Fits : (ℕ →
     unfolding touches
     touches_at i d (inl x) d_is =
         either_left (label giver taker n (giver i) == label giver taker n far) (label giver taker n (taker i) == label giver taker n far)
-        (same_eq (label giver taker n (giver i)) (label giver taker n far) (ap (λ k. label giver taker n k) x ∙ d_is))
+        (eq-eqb (label giver taker n (giver i)) (label giver taker n far) (ap (λ k. label giver taker n k) x ∙ d_is))
     touches_at i d (inr x) d_is =
         either_right (label giver taker n (giver i) == label giver taker n far) (label giver taker n (taker i) == label giver taker n far)
-        (same_eq (label giver taker n (taker i)) (label giver taker n far) (ap (λ k. label giver taker n k) x ∙ d_is))
+        (eq-eqb (label giver taker n (taker i)) (label giver taker n far) (ap (λ k. label giver taker n k) x ∙ d_is))
 
     touched : (i : ℕ) → touches i ≡ true → (d : ℕ) × At giver taker i d × (label giver taker n d ≡ label giver taker n far)
     unfolding touches
-    touched i h = elim (either (label giver taker n (giver i) == label giver taker n far) (label giver taker n (taker i) == label giver taker n far) h) [
-      | inl x ↦ (giver i, inl refl, eq_same (label giver taker n (giver i)) (label giver taker n far) x)
-      | inr x ↦ (taker i, inr refl, eq_same (label giver taker n (taker i)) (label giver taker n far) x)
+    touched i h = elim (or_cases (label giver taker n (giver i) == label giver taker n far) (label giver taker n (taker i) == label giver taker n far) h) [
+      | inl x ↦ (giver i, inl refl, eqb-true (label giver taker n (giver i)) (label giver taker n far) x)
+      | inr x ↦ (taker i, inr refl, eqb-true (label giver taker n (taker i)) (label giver taker n far) x)
     ]
 
     -- What grew from the side far at its joints, and what grew from a at all others.
@@ -145,13 +142,13 @@ module _ (V : Type 0) (count : ℕ) (giver taker : ℕ → ℕ) (Fits : (ℕ →
 
     rows_far : (b : ℕ) → label giver taker n b ≡ label giver taker n far → rows b ≡ f.rows b
     unfolding rows
-    rows_far b b_is = cond-true (label giver taker n b == label giver taker n far) (f.rows b) (g.rows b) (same_eq (label giver taker n b) (label giver taker n far) b_is)
+    rows_far b b_is = cond-true (label giver taker n b == label giver taker n far) (f.rows b) (g.rows b) (eq-eqb (label giver taker n b) (label giver taker n far) b_is)
 
     rows_near : (b : ℕ) → label giver taker n b ≡ label giver taker n a → rows b ≡ g.rows b
     unfolding rows
     rows_near b b_is =
         cond-false (label giver taker n b == label giver taker n far) (f.rows b) (g.rows b)
-        (other_eq (label giver taker n b) (label giver taker n far) (λ e. apart (sym e ∙ b_is)))
+        (ne_eqb (label giver taker n b) (label giver taker n far) (λ e. apart (sym e ∙ b_is)))
 
     -- What is linked to a now was linked to a, or to the side far.
     merged : ((b : ℕ) → label giver taker (suc n) b ≡ label giver taker (suc n) a → (label giver taker n b ≡ label giver taker n a) ⊎ (label giver taker n b ≡ label giver taker n far))

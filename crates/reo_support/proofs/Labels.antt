@@ -1,9 +1,8 @@
 -- Labels of sides: one for all sides that joints link.
 use Rattle.std.proofs.Common.{◌≡◌, inl, inr, ℕ, zero, suc, ◌<◌, ◌≤◌, Bool, length, refl, ap, sym, ◌∙◌, subst, arith}
 use Rattle.std.specs.Bool.{◌==◌}
-use Rattle.std.proofs.lemmas.Bool.{cases_eq}
+use Rattle.std.proofs.lemmas.Bool.{cases_eq, eqb-true, eq-eqb}
 use Rattle.std.proofs.lemmas.List.{get_or_default}
-use Rattle.reo_values.proofs.Naturals.{eq_same, same_eq}
 use Rattle.reo_net_base.specs.Net.{Net}
 use Rattle.reo_net_laws.specs.Parts.{IsLinked}
 use Rattle.reo_joint_values.specs.Values.{giver_side, taker_side, no_joint}
@@ -86,4 +85,4 @@ linked_label net n a b few linked =
     let alike : (tag a == tag a) ≡ (tag b == tag a) = linked (λ k. tag k == tag a) (record {
       along = λ j d lt. rw (get_or_default net.joints j d no_joint (omega arith)) (ap (λ (m : ℕ). m == tag a) (label_along (giver_side net) (taker_side net) j n lt));
     }) in
-    sym (eq_same (tag b) (tag a) (sym alike ∙ same_eq (tag a) (tag a) refl))
+    sym (eqb-true (tag b) (tag a) (sym alike ∙ eq-eqb (tag a) (tag a) refl))

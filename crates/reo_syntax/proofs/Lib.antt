@@ -18,3 +18,4 @@ pub mod Items
 pub mod Programs
 pub mod Bare
 pub mod Whole
+pub mod Cut

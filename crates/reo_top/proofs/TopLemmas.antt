@@ -1,7 +1,7 @@
 -- From the words to the command that they are, and to what it has come to.
 use Rattle.std.proofs.Common.{◌≡◌, inl, inr, ℕ, true, false, List, [], ◌∷◌, sym, subst, refl, arith}
+use Rattle.std.proofs.lemmas.Bool.{both_ways}
 use Rattle.std.specs.Prelude.{◌≢◌, ◌&&◌, Option, Some, None, codes}
-use Rattle.reo_values.proofs.Truths.{no_both}
 use Rattle.reo_command.specs.declared.command.Command.{Command}
 use Rattle.reo_command.specs.declared.command.Command.TheVariants.{Run, Check, Print, Upgrade, Verify, Bench, Live, Tables, Prove, VerifyProof}
 use Rattle.reo_top.specs.Answers.{IsAnsweredOver, IsHeardAs, Answered, AnsweredFor, takes_for, free_for, roles_for, names_for}
@@ -37,7 +37,7 @@ owed_still Print words a b still = refl
 owed_still Upgrade words a b still = refl
 owed_still Verify words a b still = refl
 owed_still Bench words a b still = refl
-owed_still Live words a b still = absurd (no_both true refl still)
+owed_still Live words a b still = absurd (both_ways true still refl)
 owed_still Tables words a b still = refl
 owed_still Prove words a b still = refl
 owed_still VerifyProof words a b still = refl
@@ -76,7 +76,7 @@ module _ (words : List (List ℕ)) (files : Change FilesState) (source : SourceC
     fetched = none_fetched names files same;
     cases = cases;
     exact = exact;
-    blames = record { only = λ three. absurd (other three); told = λ gone. absurd (no_both false gone refl) };
+    blames = record { only = λ three. absurd (other three); told = λ gone. absurd (both_ways false refl gone) };
   }
 
   -- And one line is owed.
@@ -88,7 +88,7 @@ module _ (words : List (List ℕ)) (files : Change FilesState) (source : SourceC
 
   -- Made work is measured.
   not_three : IsAmong (statuses_of Bench) code → code ≢ 3
-  not_three among three = no_both false (subst (λ (k : ℕ). IsAmong (statuses_of Bench) k) three among) refl
+  not_three among three = both_ways false refl (subst (λ (k : ℕ). IsAmong (statuses_of Bench) k) three among)
 
   pub bench_answered : (size : ℕ) → Cases (MeasuresMade size) sink code → IsExact (MeasuresMade size) sink code → IsAmong (statuses_of Bench) code → files.new ≡ files.old
       → IsAnswered false (λ answers. MeasuresMade size) [] [] files sink code
@@ -103,4 +103,4 @@ module _ (words : List (List ℕ)) (files : Change FilesState) (source : SourceC
 
 -- Hearing takes events.
 pub live_takes : (o : Option Command) → o ≡ Some Live → takes_for o ≡ false → ⊥
-live_takes o is none = no_both (takes_for o) (subst (λ (p : Option Command). takes_for p ≡ true) (sym is) refl) none
+live_takes o is none = both_ways (takes_for o) none (subst (λ (p : Option Command). takes_for p ≡ true) (sym is) refl)

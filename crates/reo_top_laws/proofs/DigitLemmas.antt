@@ -1,5 +1,6 @@
 -- Numbers in decimal, with zeros before them.
 use Rattle.std.proofs.Common.{◌≡◌, ◌∙◌, ◌⊎◌, inl, inr, ℕ, zero, suc, ◌^◌, ◌≤◌, ◌<◌, true, List, [], ◌∷◌, ◌++◌, length, replicate, refl, sym, ap, subst, arith}
+use Rattle.std.proofs.lemmas.Bool.{and_parts, and_from}
 use Rattle.std.proofs.Math.Nat.{eq-or-lt_of_le}
 use Rattle.std.specs.Fmt.{decimal}
 use Rattle.std.specs.List.{list_all}
@@ -7,9 +8,7 @@ use Rattle.std.proofs.lemmas.Bool.Decides.{nat_tests}
 use Rattle.std.proofs.lemmas.Fmt.{digits_decimal, digits_value-decimal, decimal-digits_value, decimal_nonempty}
 use Rattle.std.proofs.lemmas.Str.Parse.{IsNumeralModel, IsDigitsTest, FoldsDigits, numerals_by_fold}
 use Rattle.reo_values.specs.Names.{is_digit}
-use Rattle.reo_values.proofs.Truths.{and_left, and_right}
 use Rattle.reo_grammar.specs.Tokens.{number_from}
-use Rattle.reo_grammar.proofs.Sound.{and-both}
 use Rattle.reo_cursor.proofs.Digits.{digit-least}
 use Rattle.reo_command.proofs.NumberLemmas.{digit-most}
 
@@ -19,8 +18,8 @@ digit_is b low high = grind (arith, nat_tests)
 tells : IsDigitsTest (λ ds. list_all is_digit ds ≡ true)
 tells = record {
   empty = refl;
-  parts = λ c cs h. let d = and_left (is_digit c) (list_all is_digit cs) h in ((digit-least c d, digit-most c d), and_right (is_digit c) (list_all is_digit cs) h);
-  more = λ c cs d h. and-both (is_digit c) (list_all is_digit cs) (digit_is c d.0 d.1) h;
+  parts = λ c cs h. let d = (and_parts (is_digit c) (list_all is_digit cs) h).0 in ((digit-least c d, digit-most c d), (and_parts (is_digit c) (list_all is_digit cs) h).1);
+  more = λ c cs d h. and_from (is_digit c) (list_all is_digit cs) (digit_is c d.0 d.1) h;
 }
 
 folds : FoldsDigits number_from
@@ -68,5 +67,5 @@ pub behind_zeros : (ds : List ℕ) → list_all is_digit ds ≡ true → 1 ≤ n
 behind_zeros [] digits some small = absurd (omega arith)
 behind_zeros (d ∷ ds) digits some small =
     by_first d ds digits small
-    (λ same. behind_zeros ds (and_right (is_digit d) (list_all is_digit ds) digits) (subst (λ (n : ℕ). 1 ≤ n) (sym same) some) (subst (λ (n : ℕ). n < 2 ^ 64) (sym same) small))
-    (eq-or-lt_of_le (digit-least d (and_left (is_digit d) (list_all is_digit ds) digits)))
+    (λ same. behind_zeros ds ((and_parts (is_digit d) (list_all is_digit ds) digits).1) (subst (λ (n : ℕ). 1 ≤ n) (sym same) some) (subst (λ (n : ℕ). n < 2 ^ 64) (sym same) small))
+    (eq-or-lt_of_le (digit-least d ((and_parts (is_digit d) (list_all is_digit ds) digits).0)))

@@ -1,14 +1,13 @@
 -- The words of the options of a run.
 use Rattle.std.proofs.Common.{◌≡◌, ◌∙◌, ℕ, ◌^◌, ◌≤◌, ◌<◌, Bool, true, false, cond, not, List, [], ◌∷◌, length, refl, sym, ap, subst, arith, nat_le, ◌==◌, ◌&&◌, ◌++◌, get_or, drop}
+use Rattle.std.proofs.lemmas.Bool.{and_parts, and_from}
 use Rattle.std.specs.Prelude.{Option, Some, None, codes, option_and_then, option_map}
 use Rattle.std.specs.List.{list_all}
 use Rattle.std.specs.Str.{bytes_eq}
 use Rattle.std.proofs.lemmas.Bool.Decides.{nat_tests}
 use Rattle.std.proofs.lemmas.Slice.Eq.{bytes_eq-Decides}
 use Rattle.reo_values.specs.Names.{is_digit}
-use Rattle.reo_values.proofs.Truths.{and_left, and_right}
 use Rattle.reo_grammar.specs.Tokens.{number_from}
-use Rattle.reo_grammar.proofs.Sound.{and-both}
 use Rattle.reo_command.specs.declared.setting.Setting.TheVariants.{Budget, Rounds}
 use Rattle.reo_command.specs.Settings.{numbers_of, number_behind}
 use Rattle.reo_command.specs.Numbers.{is_number}
@@ -34,29 +33,29 @@ is_short : (n : ℕ) → nat_le n 10 ≡ true → n ≤ 10
 is_short n h = grind (arith, nat_tests)
 
 in_range : (n : ℕ) → 1 ≤ n → n ≤ 1000000000 → (nat_le 1 n && nat_le n 1000000000) ≡ true
-in_range n low high = and-both (nat_le 1 n) (nat_le n 1000000000) (grind (arith, nat_tests)) (grind (arith, nat_tests))
+in_range n low high = and_from (nat_le 1 n) (nat_le n 1000000000) (grind (arith, nat_tests)) (grind (arith, nat_tests))
 
 some_few : (n : ℕ) → 0 < n → n ≤ 10 → (not (n == 0) && nat_le n 10) ≡ true
-some_few n some few = and-both (not (n == 0)) (nat_le n 10) (grind (arith, nat_tests)) (grind (arith, nat_tests))
+some_few n some few = and_from (not (n == 0)) (nat_le n 10) (grind (arith, nat_tests)) (grind (arith, nat_tests))
 
 number_is : (word : List ℕ) → list_all is_digit word ≡ true → 0 < length word → length word ≤ 10 → is_number word ≡ true
 number_is word digits some few =
     let both : (not (length word == 0) && nat_le (length word) 10) ≡ true = some_few (length word) some few in
-    and-both (not (length word == 0)) (nat_le (length word) 10 && list_all is_digit word) (and_left (not (length word == 0)) (nat_le (length word) 10) both)
-    (and-both (nat_le (length word) 10) (list_all is_digit word) (and_right (not (length word == 0)) (nat_le (length word) 10) both) digits)
+    and_from (not (length word == 0)) (nat_le (length word) 10 && list_all is_digit word) ((and_parts (not (length word == 0)) (nat_le (length word) 10) both).0)
+    (and_from (nat_le (length word) 10) (list_all is_digit word) ((and_parts (not (length word == 0)) (nat_le (length word) 10) both).1) digits)
 
 -- The number behind the option, and its digits.
 pub digits_said : (word : List ℕ) (n : ℕ) → number_behind Rounds word ≡ Some n → IsInDigits word n × (1 ≤ n) × (n ≤ 10 ^ 9)
 digits_said word n e =
     let v : ℕ = number_from 0 word in
     let told : ((is_number word && (nat_le 1 v && nat_le v 1000000000)) ≡ true) × (v ≡ n) = taken (is_number word && (nat_le 1 v && nat_le v 1000000000)) v n e in
-    let number : is_number word ≡ true = and_left (is_number word) (nat_le 1 v && nat_le v 1000000000) told.0 in
-    let range : (nat_le 1 v && nat_le v 1000000000) ≡ true = and_right (is_number word) (nat_le 1 v && nat_le v 1000000000) told.0 in
-    let formed : (nat_le (length word) 10 && list_all is_digit word) ≡ true = and_right (not (length word == 0)) (nat_le (length word) 10 && list_all is_digit word) number in
-    let low : 1 ≤ v = is_least v (and_left (nat_le 1 v) (nat_le v 1000000000) range) in
-    let high : v ≤ 1000000000 = is_most v (and_right (nat_le 1 v) (nat_le v 1000000000) range) in
-    let few : length word ≤ 10 = is_short (length word) (and_left (nat_le (length word) 10) (list_all is_digit word) formed) in
-    subst (λ (m : ℕ). IsInDigits word m × (1 ≤ m) × (m ≤ 10 ^ 9)) told.1 (in_digits word (and_right (nat_le (length word) 10) (list_all is_digit word) formed) few low high)
+    let number : is_number word ≡ true = (and_parts (is_number word) (nat_le 1 v && nat_le v 1000000000) told.0).0 in
+    let range : (nat_le 1 v && nat_le v 1000000000) ≡ true = (and_parts (is_number word) (nat_le 1 v && nat_le v 1000000000) told.0).1 in
+    let formed : (nat_le (length word) 10 && list_all is_digit word) ≡ true = (and_parts (not (length word == 0)) (nat_le (length word) 10 && list_all is_digit word) number).1 in
+    let low : 1 ≤ v = is_least v ((and_parts (nat_le 1 v) (nat_le v 1000000000) range).0) in
+    let high : v ≤ 1000000000 = is_most v ((and_parts (nat_le 1 v) (nat_le v 1000000000) range).1) in
+    let few : length word ≤ 10 = is_short (length word) ((and_parts (nat_le (length word) 10) (list_all is_digit word) formed).0) in
+    subst (λ (m : ℕ). IsInDigits word m × (1 ≤ m) × (m ≤ 10 ^ 9)) told.1 (in_digits word ((and_parts (nat_le (length word) 10) (list_all is_digit word) formed).1) few low high)
   where
     in_digits : (word : List ℕ) → list_all is_digit word ≡ true → length word ≤ 10 → 1 ≤ number_from 0 word → number_from 0 word ≤ 1000000000
         → IsInDigits word (number_from 0 word) × (1 ≤ number_from 0 word) × (number_from 0 word ≤ 10 ^ 9)
@@ -72,7 +71,7 @@ number_said word n said low high =
     let some : 0 < length word = subst (λ (w : List ℕ). 0 < length w) (sym said.word_is) (some_digit said.zeros n small) in
     let range : (nat_le 1 (number_from 0 word) && nat_le (number_from 0 word) 1000000000) ≡ true = in_range (number_from 0 word) (omega arith) (omega arith) in
     given (is_number word && (nat_le 1 (number_from 0 word) && nat_le (number_from 0 word) 1000000000)) (number_from 0 word) n
-    (and-both (is_number word) (nat_le 1 (number_from 0 word) && nat_le (number_from 0 word) 1000000000) (number_is word digits some said.short) range) value
+    (and_from (is_number word) (nat_le 1 (number_from 0 word) && nat_le (number_from 0 word) 1000000000) (number_is word digits some said.short) range) value
 
 -- The numbers of the option, where its word stands or not, what is behind it, and what is left behind that.
 abbrev numbers : Bool → Option ℕ → List (List ℕ) → List (List ℕ) → Option (List ℕ)

@@ -1,8 +1,8 @@
 -- Joints and ends that do not flow.
 use Rattle.std.proofs.Common.{◌≡◌, ◌≢◌, ◌∙◌, ◌&&◌, ◌||◌, inl, inr, ℕ, zero, suc, ◌<◌, Bool, true, false, not, List, [], ◌∷◌, length, get_or, take, ◌+◌, ap, sym, refl, arith}
+use Rattle.std.proofs.lemmas.Bool.{and_parts}
 use Rattle.std.specs.List.{list_all}
 use Rattle.std.proofs.lemmas.List.Folds.{list_all_at, list_all_more}
-use Rattle.reo_values.proofs.Truths.{and_both}
 use Rattle.reo_net_base.specs.declared.mark.Mark.{Mark}
 use Rattle.reo_net_base.specs.declared.mark.Mark.TheVariants.{F, G, R, J}
 use Rattle.reo_net_base.specs.declared.joint.Joint.{Joint}
@@ -29,8 +29,8 @@ neither false false e = (refl, refl)
 -- all elements pass exactly where each does
 all_at : {X : Type 0} (test : X → Bool) (xs : List X) (i : ℕ) (d : X) → list_all test xs ≡ true → i < length xs → test (get_or xs i d) ≡ true
 all_at test [] i d all lt = absurd (omega arith)
-all_at test (x ∷ xs) zero d all lt = (and_both (test x) (list_all test xs) all).0
-all_at test (x ∷ xs) (suc i) d all lt = all_at test xs i d (and_both (test x) (list_all test xs) all).1 (omega arith)
+all_at test (x ∷ xs) zero d all lt = (and_parts (test x) (list_all test xs) all).0
+all_at test (x ∷ xs) (suc i) d all lt = all_at test xs i d (and_parts (test x) (list_all test xs) all).1 (omega arith)
 
 all_from : {X : Type 0} (test : X → Bool) (xs : List X) → ((i : ℕ) (d : X) → i < length xs → test (get_or xs i d) ≡ true) → list_all test xs ≡ true
 all_from test [] each = refl

@@ -7,7 +7,7 @@ use Rattle.reo_trace.specs.declared.line.Entry.{Entry}
 use Rattle.reo_trace.specs.declared.line.Entry.TheVariants.{One, Two}
 use Rattle.reo_trace.specs.RoundText.{cell_text, entry_text}
 use Rattle.reo_values.specs.decimals.Digits.{IsSmall, NoDigit}
-use Rattle.reo_values.proofs.decimals.Digits.{decimal_first, dot_no_digit}
+use Rattle.reo_trace_reader.proofs.Digits.{decimal_first, dot_no_digit}
 use Rattle.reo_trace_reader.specs.texts.Lines.{EndsEntry, IsCell, IsEntry}
 use Rattle.reo_trace_reader.proofs.texts.Entries.{dot_no_end, end_no_digit}
 use Rattle.reo_trace_reader.specs.declared.texts.fault.LineFault.{LineFault}

@@ -6,7 +6,7 @@ use Rattle.std.proofs.lemmas.List.{append_cancel_left}
 use Rattle.reo_trace.specs.declared.line.Ending.{Ending}
 use Rattle.reo_trace.specs.declared.line.Ending.TheVariants.{Done, Stuck, Limit, Spent, Wide}
 use Rattle.reo_values.specs.decimals.Digits.{IsSmall, NoDigit}
-use Rattle.reo_values.proofs.decimals.Digits.{space_no_digit}
+use Rattle.reo_trace_reader.proofs.Digits.{space_no_digit}
 use Rattle.reo_values.proofs.decimals.Fronts.{heads_apart}
 use Rattle.reo_trace_reader.specs.texts.Lines.{IsEnding}
 use Rattle.reo_trace_reader.specs.declared.texts.fault.LineFault.{LineFault}

@@ -12,7 +12,7 @@ use Rattle.reo_trace.specs.declared.line.Entry.TheVariants.{One, Two}
 use Rattle.reo_trace.specs.RoundText.{cell_text, entry_text}
 use Rattle.reo_trace.specs.Spaced.{spaced}
 use Rattle.reo_values.specs.decimals.Digits.{IsSmall}
-use Rattle.reo_values.proofs.decimals.Digits.{decimal_first}
+use Rattle.reo_trace_reader.proofs.Digits.{decimal_first}
 use Rattle.reo_trace_reader.specs.texts.Lines.{EndsEntry, IsCell, IsEntry}
 use Rattle.reo_trace_reader.specs.Ends.{EndsLine}
 use Rattle.reo_trace_reader.proofs.RowTexts.{tails, left_first, left_more, left_less, row_stood, IsLeft}

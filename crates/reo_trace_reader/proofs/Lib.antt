@@ -11,3 +11,4 @@ pub mod RoundTexts
 pub mod RowTexts
 pub mod Steps
 pub mod TraceTexts
+pub mod Digits

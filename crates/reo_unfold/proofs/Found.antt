@@ -1,11 +1,11 @@
 -- What a search by name finds, by the number of the name.
 use Rattle.std.proofs.Common.{arith, ◌≡◌, ◌∙◌, ℕ, ◌+◌, ◌<◌, ◌≤◌, suc, List, [], ◌∷◌, length, get_or, map, Bool, true, false, not, cond, Some, None, find, position, refl, sym, ap, bytes_eq}
+use Rattle.std.proofs.lemmas.Bool.{ltb-false}
 use Rattle.std.specs.Prelude.{unwrap_or}
 use Rattle.std.specs.List.{prefix_len}
 use Rattle.std.proofs.lemmas.List.Sums.{prefix_len-le-length}
 use Rattle.std.proofs.lemmas.List.Quantifiers.{position-Some}
-use Rattle.reo_values.proofs.Sequences.{at_place, at_none}
-use Rattle.reo_values.proofs.Naturals.{not_below}
+use Rattle.reo_unfold.proofs.Sequences.{at_place, at_none}
 use Rattle.reo_flat.specs.Unfolding.{Meaning, no_meaning, meaning_named}
 use Rattle.reo_rules.proofs.Mapped.{position-map}
 
@@ -47,4 +47,4 @@ module _ (known : List Meaning) (names : List (List ℕ)) (name : List ℕ) (are
   -- A name without a number is that of no connector.
   pub meaning_none : position (bytes_eq name) names ≡ None → meaning_named known name ≡ no_meaning
   meaning_none is =
-      none_found (λ (m : Meaning). bytes_eq name m.name) no_meaning known (not_below _ _ (at_none _ _ (sym number ∙ is)))
+      none_found (λ (m : Meaning). bytes_eq name m.name) no_meaning known (ltb-false _ _ (at_none _ _ (sym number ∙ is)))

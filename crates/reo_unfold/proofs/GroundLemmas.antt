@@ -3,7 +3,7 @@ use Rattle.std.proofs.Common.{arith, ◌≡◌, ◌∙◌, ℕ, zero, suc, ◌+�
 use Rattle.std.specs.Prelude.{slice_get}
 use Rattle.std.proofs.lemmas.List.{append-nil, append_assoc, length-append, length-map, map-append, take_all, take-append-le, get_or-append_right}
 use Rattle.std.proofs.lemmas.Option.{slice_get_within}
-use Rattle.reo_values.proofs.Sequences.{left_none, cut_at}
+use Rattle.reo_unfold.proofs.Sequences.{left_none, cut_at}
 use Rattle.reo_trees.specs.declared.types.TypeTerm.{TypeTerm}
 use Rattle.reo_trees.specs.declared.programs.Connector.{Connector}
 use Rattle.reo_trees.specs.declared.programs.Declaration.{Declaration}
@@ -11,7 +11,7 @@ use Rattle.reo_trees.specs.declared.programs.Declaration.TheVariants as declarat
 use Rattle.reo_rules.specs.Lists.{has_name}
 use Rattle.reo_rules.specs.Types.{Typed, types_after, types_of, resolved}
 use Rattle.reo_rules.specs.Scopes.{type_names, connectors_of, connector_names}
-use Rattle.reo_rules.proofs.AfterLemmas.{flat_map-append, where_false}
+use Rattle.reo_unfold.proofs.AfterLemmas.{flat_map-append, where_false}
 use Rattle.reo_rules.proofs.Declared.{types_after-append}
 use Rattle.reo_rules.specs.Twice.{twice_among, twice_in}
 use Rattle.reo_rules.specs.Scopes.{connectors_in}

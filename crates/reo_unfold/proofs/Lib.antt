@@ -8,3 +8,5 @@ pub mod KindLemmas
 pub mod LocalLemmas
 pub mod GroundLemmas
 pub mod UnfoldLemmas
+pub mod AfterLemmas
+pub mod Sequences

@@ -2,9 +2,9 @@
 use Rattle.std.proofs.Common.{arith, ◌≡◌, ◌∙◌, ℕ, zero, suc, ◌+◌, ◌-◌, ◌<◌, ◌≤◌, List, [], ◌∷◌, ◌++◌, length, take, get_or, refl, sym, ap}
 use Rattle.std.specs.Prelude.{slice_get}
 use Rattle.std.proofs.lemmas.List.{append-nil, append_assoc, take_more}
-use Rattle.reo_values.proofs.Sequences.{left_none}
+use Rattle.reo_unfold.proofs.Sequences.{left_none}
 use Rattle.reo_rules.specs.Lists.{each_after}
-use Rattle.reo_rules.proofs.AfterLemmas.{right_none}
+use Rattle.reo_unfold.proofs.AfterLemmas.{right_none}
 
 -- The next item of a list.
 pub take_next : {X : Type 0} (xs : List X) (i : ℕ) (x : X) → i < length xs → x ≡ get_or xs i x → take (i + 1) xs ≡ take i xs ++ x ∷ []

@@ -5,7 +5,7 @@ use Rattle.std.specs.List.{flat_map}
 use Rattle.std.proofs.lemmas.List.{length-append, length-map, map-append}
 use Rattle.std.proofs.lemmas.Option.{slice_get-map, slice_get-get_or}
 use Rattle.reo_values.specs.declared.kindred.Kindred.TheVariants as kinds
-use Rattle.reo_values.proofs.Sequences.{left_none}
+use Rattle.reo_unfold.proofs.Sequences.{left_none}
 use Rattle.reo_trees.specs.declared.items.Item.{Item}
 use Rattle.reo_trees.specs.declared.items.ItemForm.{ItemForm}
 use Rattle.reo_trees.specs.declared.items.ItemForm.TheVariants as forms
@@ -16,7 +16,7 @@ use Rattle.reo_rules.specs.Types.{Typed, names_of, type_named, resolved}
 use Rattle.reo_rules.specs.Scopes.{parameter_names, node_names, parameter_type, node_types_in, scope_of}
 use Rattle.reo_rules.specs.Twice.{twice_among, twice_in_item, twice_in_parameter}
 use Rattle.reo_rules.proofs.Mapped.{position-map}
-use Rattle.reo_rules.proofs.AfterLemmas.{where_false}
+use Rattle.reo_unfold.proofs.AfterLemmas.{where_false}
 use Rattle.reo_rules.proofs.Declared.{names_of-nodes, names_of-parameters}
 use Rattle.reo_unfold.specs.Known.{shape_type}
 use Rattle.reo_unfold.specs.Local.{node_place, IsNew, shape_in}

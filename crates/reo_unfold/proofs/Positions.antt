@@ -2,10 +2,9 @@
 use Rattle.std.proofs.Common.{arith, ◌≡◌, ◌∙◌, ℕ, zero, suc, ◌+◌, ◌<◌, ◌≤◌, inl, inr, List, [], ◌∷◌, length, take, Bool, true, false, not, cond, Some, None, find, position, refl, ap}
 use Rattle.std.specs.Prelude.{slice_get}
 use Rattle.std.specs.List.{prefix_len}
-use Rattle.std.proofs.lemmas.Bool.{ltb-true}
+use Rattle.std.proofs.lemmas.Bool.{ltb-true, ltb-false}
 use Rattle.std.proofs.lemmas.Bool.Decides.{leb_tells}
-use Rattle.reo_values.proofs.Sequences.{at_place, at_none}
-use Rattle.reo_values.proofs.Naturals.{not_below}
+use Rattle.reo_unfold.proofs.Sequences.{at_place, at_none}
 
 module _ {X : Type 0} (p : X → Bool) where
   -- How many there are before the first that passes.
@@ -44,7 +43,7 @@ module _ {X : Type 0} (p : X → Bool) where
   place_is xs n is = at_place _ _ n is
 
   pub place_none : (xs : List X) → position p xs ≡ None → length xs ≤ before_first xs
-  place_none xs is = not_below _ _ (at_none _ _ is)
+  place_none xs is = ltb-false _ _ (at_none _ _ is)
 
   past : (xs : List X) (n : ℕ) → length xs ≤ n → slice_get xs n ≡ None
   past [] n h = refl

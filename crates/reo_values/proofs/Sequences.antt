@@ -6,10 +6,6 @@ use Rattle.std.specs.Prelude.{bytes_eq, filter, slice_get}
 pub same_bytes : (xs ys : List ℕ) → bytes_eq xs ys ≡ true → xs ≡ ys
 same_bytes xs ys e = let d = bytes_eq-Decides xs ys in grind arith
 
-pub map_same : {A : Type 0} (xs : List A) → map (λ x. x) xs ≡ xs
-map_same [] = refl
-map_same (x ∷ xs) = ap (λ l. x ∷ l) (map_same xs)
-
 pub bytes_same : (xs : List ℕ) → bytes_eq xs xs ≡ true
 bytes_same xs = let d = bytes_eq-Decides xs xs in grind arith
 

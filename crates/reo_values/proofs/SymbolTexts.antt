@@ -1,5 +1,6 @@
 -- One text of names tells the names.
 use Rattle.std.proofs.Common.{◌≡◌, ℕ, true, ◌&&◌, List, [], ◌∷◌, ◌++◌, refl, sym, subst}
+use Rattle.std.specs.Cmp.{both_ways}
 use Rattle.std.specs.Prelude.{bytes_eq}
 use Rattle.std.specs.List.{flat_map}
 use Rattle.std.specs.Cmp.Lexicographic.{pointwise}
@@ -7,7 +8,6 @@ use Rattle.std.proofs.lemmas.Slice.Eq.{bytes_eq-Decides, slice_eq-Decides}
 use Rattle.reo_values.specs.Quoted.{quoted}
 use Rattle.reo_values.proofs.Quotes.{quoted_unique}
 use Rattle.reo_values.proofs.Sequences.{same_bytes, bytes_same}
-use Rattle.reo_values.proofs.Truths.{one_truth}
 
 -- a name in quotes is not empty
 never_empty : (x r : List ℕ) → [] ≡ quoted x ++ r → ⊥
@@ -35,6 +35,6 @@ names_told xs ys = (slice_eq-Decides bytes_eq-Decides xs ys (pointwise bytes_eq 
 -- two lists of names are tested by their texts
 pub seen_by_texts : (xs ys : List (List ℕ)) → bytes_eq (flat_map quoted xs) (flat_map quoted ys) ≡ pointwise bytes_eq xs ys
 seen_by_texts xs ys =
-    one_truth (bytes_eq (flat_map quoted xs) (flat_map quoted ys)) (pointwise bytes_eq xs ys)
+    both_ways (bytes_eq (flat_map quoted xs) (flat_map quoted ys)) (pointwise bytes_eq xs ys)
     (λ e. subst (λ zs. pointwise bytes_eq xs zs ≡ true) (texts_unique xs ys (same_bytes (flat_map quoted xs) (flat_map quoted ys) e)) (names_same xs))
     (λ e. subst (λ zs. bytes_eq (flat_map quoted xs) (flat_map quoted zs) ≡ true) (names_told xs ys e) (bytes_same (flat_map quoted xs)))

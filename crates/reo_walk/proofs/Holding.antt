@@ -1,9 +1,7 @@
 -- Holding a place to the number of a row.
 use Rattle.std.proofs.Common.{◌≡◌, ◌≢◌, ◌⊎◌, inl, inr, ℕ, ◌+◌, ◌<◌, Bool, true, false, not, ◌&&◌, ◌||◌, List, [], length, get_or, refl, ap, sym, ◌∙◌, subst, arith, below_more}
 use Rattle.std.specs.Bool.{◌==◌}
-use Rattle.std.proofs.lemmas.Bool.{cases_eq}
-use Rattle.reo_values.proofs.Truths.{and_left, no_both}
-use Rattle.reo_values.proofs.Naturals.{same_eq, other_eq}
+use Rattle.std.proofs.lemmas.Bool.{cases_eq, and_parts, both_ways, eq-eqb, ne_eqb}
 use Rattle.reo_net_base.specs.declared.mark.Mark.{Mark}
 use Rattle.reo_net_base.specs.Net.{Net}
 use Rattle.reo_joint_values.specs.declared.value.JointValue.{JointValue}
@@ -20,11 +18,11 @@ use Rattle.reo_propagate.specs.declared.thinning.Loss.{Loss}
 use Rattle.reo_walk.specs.declared.place.KeyPlace.{KeyPlace}
 use Rattle.reo_walk.specs.Places.{side_of_place, suits, is_at_side, value_suits, held_to}
 use Rattle.reo_walk.specs.Holding.{IsHeldTo, IsHeldSoFar, AllSuit, IsHeld}
-use Rattle.reo_walk.proofs.Numbering.{both, first_of_both, second_of_both, then_if, at_test, test_at}
+use Rattle.reo_walk.proofs.Numbering.{both, then_if, at_test, test_at}
 
 away : (i j p n : ℕ) → (i ≢ j) ⊎ (p ≢ n) → ((i == j) && (p == n)) ≡ false
-away i j p n (inl apart) = ap (λ (t : Bool). t && (p == n)) (other_eq i j apart)
-away i j p n (inr apart) = and_false (i == j) (p == n) (other_eq p n apart)
+away i j p n (inl apart) = ap (λ (t : Bool). t && (p == n)) (ne_eqb i j apart)
+away i j p n (inr apart) = and_false (i == j) (p == n) (ne_eqb p n apart)
   where
     and_false : (a b : Bool) → b ≡ false → (a && b) ≡ false
     and_false true b h = h
@@ -37,16 +35,16 @@ with_true false = refl
 -- What clearing one flag leaves.
 module _ (now new : List (List Bool)) (joint n : ℕ) (is : (k q : ℕ) → flag new k q ≡ (flag now k q && not ((k == joint) && (q == n)))) where
   pub kept_flag : (i c : ℕ) → flag new i c ≡ true → flag now i c ≡ true
-  kept_flag i c f = and_left (flag now i c) (not ((i == joint) && (c == n))) (sym (is i c) ∙ f)
+  kept_flag i c f = (and_parts (flag now i c) (not ((i == joint) && (c == n))) (sym (is i c) ∙ f)).0
 
   pub other_flag : (i c : ℕ) → (i ≢ joint) ⊎ (c ≢ n) → flag new i c ≡ flag now i c
   other_flag i c apart = is i c ∙ ap (λ (t : Bool). flag now i c && not t) (away i joint c n apart) ∙ with_true (flag now i c)
 
   pub gone_flag : flag new joint n ≡ true → ⊥
   gone_flag f =
-      let here : ((joint == joint) && (n == n)) ≡ true = both (joint == joint) (n == n) (same_eq joint joint refl) (same_eq n n refl) in
-      let left = second_of_both (flag now joint n) (not ((joint == joint) && (n == n))) (sym (is joint n) ∙ f) in
-      no_both (not ((joint == joint) && (n == n))) left (ap not here)
+      let here : ((joint == joint) && (n == n)) ≡ true = both (joint == joint) (n == n) (eq-eqb joint joint refl) (eq-eqb n n refl) in
+      let left = (and_parts (flag now joint n) (not ((joint == joint) && (n == n))) (sym (is joint n) ∙ f)).1 in
+      both_ways (not ((joint == joint) && (n == n))) (ap not here) left
 
 module _ (net : Net) (p : KeyPlace) (row joint n : ℕ) (old now : List (List Bool)) (loss : Loss) (h : IsHeldTo net p row joint n old now loss) where
   -- A value that suits stays, or is not there.
@@ -56,7 +54,7 @@ module _ (net : Net) (p : KeyPlace) (row joint n : ℕ) (old now : List (List Bo
     elsewhere = h.elsewhere;
     less = h.less;
     keeps = h.keeps;
-    done = below_more (λ c. flag now joint c ≡ true → value_suits net p row joint (value_of c) ≡ true) n h.done (λ f. elim good [ inl s ↦ s | inr gone ↦ absurd (no_both (flag now joint n) f gone) ]);
+    done = below_more (λ c. flag now joint c ≡ true → value_suits net p row joint (value_of c) ≡ true) n h.done (λ f. elim good [ inl s ↦ s | inr gone ↦ absurd (both_ways (flag now joint n) gone f) ]);
     same = h.same;
     flows = h.flows;
   }
@@ -69,13 +67,13 @@ module _ (net : Net) (p : KeyPlace) (row joint n : ℕ) (old now : List (List Bo
     elsewhere = λ i c apart. other_flag now new joint n is i c (inl apart) ∙ h.elsewhere i c apart;
     less = λ c f. h.less c (kept_flag now new joint n is joint c f);
     keeps = λ c f s. elim (cases_eq c n) [
-      | inl e ↦ absurd (no_both (value_suits net p row joint (value_of n)) (ap (λ k. value_suits net p row joint (value_of k)) (sym e) ∙ s) bad)
+      | inl e ↦ absurd (both_ways (value_suits net p row joint (value_of n)) bad (ap (λ k. value_suits net p row joint (value_of k)) (sym e) ∙ s))
       | inr apart ↦ other_flag now new joint n is joint c (inr apart) ∙ h.keeps c f s
     ];
     done = below_more (λ c. flag new joint c ≡ true → value_suits net p row joint (value_of c) ≡ true) n
         (λ c lt f. h.done c lt (kept_flag now new joint n is joint c f))
         (λ f. absurd (gone_flag now new joint n is f));
-    same = λ e. absurd (no_both more.some some e);
+    same = λ e. absurd (both_ways more.some e some);
     flows = λ e c four.
         let parts = flow e in
         other_flag now new joint n is joint c (inr (λ same. omega (arith, parts.1))) ∙ h.flows parts.0 c four;
@@ -124,7 +122,7 @@ held_all net p row old now joints all held suit = record {
         subst (λ k. value_suits net p row k v ≡ true) found.2 (suit found.0 found.1 v (subst (λ k. family_of now k v ≡ true) (sym found.2) f))
     | inr off ↦ then_if (is_at_side net (side_of_place p) j) (suits p (value_mark net (side_of_place p) j v) (mark_at_joint net (side_of_place p) row j)) (λ t. absurd (off (test_at net (side_of_place p) j t)))
   ]);
-  keeps = λ j v f. held.keeps j v (first_of_both (family_of old j v) (value_suits net p row j v) f) (second_of_both (family_of old j v) (value_suits net p row j v) f);
+  keeps = λ j v f. held.keeps j v ((and_parts (family_of old j v) (value_suits net p row j v) f).0) ((and_parts (family_of old j v) (value_suits net p row j v) f).1);
 }
 
 -- Narrowed from what is held.

@@ -1,12 +1,11 @@
 -- Whether one of some rows jams.
 use Rattle.std.proofs.Common.{◌≡◌, ◌⊎◌, inl, inr, ◌↔◌, ℕ, ◌<◌, IsTrue, Bool, ◌||◌, List, [], ◌∷◌, ◌++◌, length, get_or, sym, subst, arith, length-append}
-use Rattle.std.proofs.lemmas.Bool.{cases_eq}
+use Rattle.std.proofs.lemmas.Bool.{cases_eq, or_cases}
 use Rattle.std.proofs.Math.Seq.{get_or-append_seam}
 use Rattle.std.proofs.lemmas.List.{get_or_append_left}
 use Rattle.reo_net_base.specs.Net.{Net}
 use Rattle.reo_walk.specs.Arranged.{IsJamRow}
 use Rattle.std.proofs.lemmas.Bool.{or_left, or_right}
-use Rattle.reo_values.proofs.Truths.{either}
 
 -- One of the rows of some sides jams.
 abbrev pub SomeJams : Net → List ℕ → List ℕ → Type 0
@@ -48,6 +47,6 @@ module _ (net : Net) (sides rows : List ℕ) (side row : ℕ) (count : length ro
 
   pub jam_more : (a b : Bool) → IsTrue a ↔ SomeJams net sides rows → IsTrue b ↔ IsJamRow net side row → IsTrue (a || b) ↔ SomeJams net (sides ++ side ∷ []) (rows ++ row ∷ [])
   jam_more a b old here = (
-    λ t. elim (either a b t) [ inl x ↦ some_before (old.0 x) | inr y ↦ some_here (here.0 y) ],
+    λ t. elim (or_cases a b t) [ inl x ↦ some_before (old.0 x) | inr y ↦ some_here (here.0 y) ],
     λ s. elim (some_cases s) [ inl x ↦ or_left a b (old.1 x) | inr y ↦ or_right a b (here.1 y) ],
   )

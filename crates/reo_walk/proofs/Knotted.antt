@@ -1,5 +1,6 @@
 -- The sides of a knot as a list, and the places of these sides.
 use Rattle.std.proofs.Common.{◌≡◌, ℕ, zero, suc, ◌+◌, ◌<◌, Bool, true, List, [], ◌∷◌, ◌++◌, length, get_or, refl, sym, ◌∙◌, subst, arith}
+use Rattle.std.specs.Cmp.{both_ways}
 use Rattle.std.specs.Prelude.{map, filter}
 use Rattle.std.specs.Bool.{◌==◌}
 use Rattle.std.specs.List.{range_with_len}
@@ -12,15 +13,13 @@ use Rattle.reo_walk.specs.declared.place.KeyPlace.{KeyPlace}
 use Rattle.reo_walk.specs.declared.place.KeyPlace.TheVariants.{Class, Row}
 use Rattle.reo_walk.specs.Places.{side_of_place, places_in}
 use Rattle.reo_walk.proofs.Resting.{among_at}
-use Rattle.std.proofs.lemmas.Bool.{or_left as sooner, or_right as later}
-use Rattle.reo_values.proofs.Truths.{one_truth}
-use Rattle.reo_values.proofs.Naturals.{same_eq}
+use Rattle.std.proofs.lemmas.Bool.{or_left as sooner, or_right as later, eq-eqb}
 use Rattle.reo_propagate.proofs.Among.{among_range, among_filter, into_filter}
 
 module _ (net : Net) (inside : ℕ → Bool) (real : (s : ℕ) → inside s ≡ true → s < side_count net) where
   -- The list of the sides of a set has just these.
   pub among_sides : (s : ℕ) → among (sides_in net inside) s ≡ inside s
-  among_sides s = one_truth (among (sides_in net inside) s) (inside s)
+  among_sides s = both_ways (among (sides_in net inside) s) (inside s)
       (λ h. (among_filter inside (range_with_len 0 (side_count net)) s h).0)
       (λ h. into_filter inside (range_with_len 0 (side_count net)) s h (subst (λ (k : ℕ). among (range_with_len 0 (side_count net)) k ≡ true) (let z : 0 + s ≡ s = omega arith in z) (among_range 0 (side_count net) s (real s h))))
 
@@ -43,12 +42,12 @@ AllOf sides places = (k : ℕ) (d : KeyPlace) → k < length places → among si
 
 all_classes : (sides xs : List ℕ) → ((s : ℕ) → among xs s ≡ true → among sides s ≡ true) → AllOf sides (map Class xs)
 all_classes sides [] in_all k d lt = absurd (omega arith)
-all_classes sides (x ∷ xs) in_all zero d lt = in_all x (sooner (x == x) (among xs x) (same_eq x x refl))
+all_classes sides (x ∷ xs) in_all zero d lt = in_all x (sooner (x == x) (among xs x) (eq-eqb x x refl))
 all_classes sides (x ∷ xs) in_all (suc k) d lt = all_classes sides xs (λ s h. in_all s (later (x == s) (among xs s) h)) k d (omega arith)
 
 all_rows : (sides xs : List ℕ) → ((s : ℕ) → among xs s ≡ true → among sides s ≡ true) → AllOf sides (map Row xs)
 all_rows sides [] in_all k d lt = absurd (omega arith)
-all_rows sides (x ∷ xs) in_all zero d lt = in_all x (sooner (x == x) (among xs x) (same_eq x x refl))
+all_rows sides (x ∷ xs) in_all zero d lt = in_all x (sooner (x == x) (among xs x) (eq-eqb x x refl))
 all_rows sides (x ∷ xs) in_all (suc k) d lt = all_rows sides xs (λ s h. in_all s (later (x == s) (among xs s) h)) k d (omega arith)
 
 all_both : (sides : List ℕ) (ps qs : List KeyPlace) → AllOf sides ps → AllOf sides qs → AllOf sides (ps ++ qs)

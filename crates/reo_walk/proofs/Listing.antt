@@ -3,11 +3,9 @@ use Rattle.std.proofs.Common.{◌≡◌, ◌↔◌, inl, inr, ℕ, zero, suc, �
 use Rattle.std.specs.Prelude.{map, nat_lt}
 use Rattle.std.specs.Bool.{◌==◌}
 use Rattle.std.proofs.Math.ListN.{get_or-eq_default}
-use Rattle.std.proofs.lemmas.Bool.{cases_lt, and_parts}
+use Rattle.std.proofs.lemmas.Bool.{cases_lt, and_parts, both_ways, ltb-true}
 use Rattle.std.proofs.lemmas.List.{get_or-drop}
 use Rattle.reo_values.specs.declared.value.Value.{Value}
-use Rattle.reo_values.proofs.Truths.{no_both}
-use Rattle.reo_values.proofs.Naturals.{true_lt}
 use Rattle.reo_net_base.specs.Net.{Net, row_count, no_side}
 use Rattle.reo_net_base.specs.Sides.{side_count}
 use Rattle.reo_net_base.specs.Wired.{IsWired, IsOrder}
@@ -44,7 +42,7 @@ module _ (net : Net) (knots : Knotted) (knot : ℕ) (sides : List ℕ) (are : Ar
 
   pub real : AreSides net (in_knot knots.numbers knot)
   real s h =
-      let under : s < length knots.numbers = true_lt s (length knots.numbers) (and_parts (nat_lt s (length knots.numbers)) (get_or knots.numbers s 0 == knot) h).0 in
+      let under : s < length knots.numbers = ltb-true s (length knots.numbers) (and_parts (nat_lt s (length knots.numbers)) (get_or knots.numbers s 0 == knot) h).0 in
       omega (arith, under, are.numbered.one_each)
 
   pub listed_sides : sides ≡ sides_in net (in_knot knots.numbers knot)
@@ -77,7 +75,7 @@ module _ (net : Net) (knots : Knotted) (knot : ℕ) (sides : List ℕ) (are : Ar
     in_row : (j : ℕ) (v : JointValue) → j < length net.joints → family_of alive j v ≡ true → code_of v < length (get_or items j []) + 4
     in_row j v j_lt h = elim (cases_lt (code_of v) (length (get_or alive j []))) [
       | inl under ↦ omega (arith, under, ready.width j j_lt)
-      | inr ge ↦ absurd (no_both (family_of alive j v) h (get_or-eq_default (get_or alive j []) false ge))
+      | inr ge ↦ absurd (both_ways (family_of alive j v) (get_or-eq_default (get_or alive j []) false ge) h)
     ]
 
     same : (j : ℕ) (v : JointValue) → j < length net.joints → in_knot knots.numbers knot (giver_side net j) ≡ true → (family_of alive j v ≡ true) ↔ (sets j v ≡ true)

@@ -18,10 +18,8 @@ use Rattle.reo_rows.specs.Stands.{value_mark}
 use Rattle.reo_walk.specs.declared.place.KeyPlace.{KeyPlace}
 use Rattle.reo_walk.specs.declared.place.KeyPlace.TheVariants.{Class, Row}
 use Rattle.reo_walk.specs.Places.{side_of_place, number_of, suits, is_at_side, value_suits, held_to}
-use Rattle.std.proofs.lemmas.Bool.{or_left as one_or, or_right as or_other}
+use Rattle.std.proofs.lemmas.Bool.{or_left as one_or, or_right as or_other, eqb-true, eq-eqb, ne_eqb, and_parts}
 pub use Rattle.std.proofs.lemmas.Bool.{and_from as both}
-pub use Rattle.reo_values.proofs.Truths.{and_left as first_of_both, and_right as second_of_both}
-use Rattle.reo_values.proofs.Naturals.{eq_same, same_eq, other_eq}
 use Rattle.reo_values.proofs.Truths.{if_then}
 
 pub then_if : (a b : Bool) → (a ≡ true → b ≡ true) → (not a || b) ≡ true
@@ -29,12 +27,12 @@ then_if true b h = h refl
 then_if false b h = refl
 
 pub at_test : (net : Net) (side j : ℕ) → AtSide net j side → is_at_side net side j ≡ true
-at_test net side j (inl e) = one_or (giver_side net j == side) (taker_side net j == side) (same_eq (giver_side net j) side e)
-at_test net side j (inr e) = or_other (giver_side net j == side) (taker_side net j == side) (same_eq (taker_side net j) side e)
+at_test net side j (inl e) = one_or (giver_side net j == side) (taker_side net j == side) (eq-eqb (giver_side net j) side e)
+at_test net side j (inr e) = or_other (giver_side net j == side) (taker_side net j == side) (eq-eqb (taker_side net j) side e)
 
 test_at_for : (net : Net) (side j : ℕ) (t : Bool) → (giver_side net j == side) ≡ t → (t || (taker_side net j == side)) ≡ true → AtSide net j side
-test_at_for net side j true is h = inl (eq_same (giver_side net j) side is)
-test_at_for net side j false is h = inr (eq_same (taker_side net j) side h)
+test_at_for net side j true is h = inl (eqb-true (giver_side net j) side is)
+test_at_for net side j false is h = inr (eqb-true (taker_side net j) side h)
 
 pub test_at : (net : Net) (side j : ℕ) → is_at_side net side j ≡ true → AtSide net j side
 test_at net side j h = test_at_for net side j (giver_side net j == side) refl h
@@ -42,7 +40,7 @@ test_at net side j h = test_at_for net side j (giver_side net j == side) refl h
 -- At the giver's side a value has its giver's mark, and so has a row.
 module _ (net : Net) (side j : ℕ) (here : giver_side net j ≡ side) where
   yes_gives : (giver_side net j == side) ≡ true
-  yes_gives = same_eq (giver_side net j) side here
+  yes_gives = eq-eqb (giver_side net j) side here
 
   pub giver_value : (v : JointValue) → value_mark net side j v ≡ giver_mark v
   giver_value v = ap (λ (t : Bool). cond t (giver_mark v) (taker_mark v)) yes_gives
@@ -52,7 +50,7 @@ module _ (net : Net) (side j : ℕ) (here : giver_side net j ≡ side) where
 
 module _ (net : Net) (wired : IsWired net) (side j : ℕ) (lt : j < length net.joints) (here : taker_side net j ≡ side) where
   not_gives : (giver_side net j == side) ≡ false
-  not_gives = other_eq (giver_side net j) side (λ same. wired.apart j no_joint lt (same ∙ sym here))
+  not_gives = ne_eqb (giver_side net j) side (λ same. wired.apart j no_joint lt (same ∙ sym here))
 
   pub taker_value : (v : JointValue) → value_mark net side j v ≡ taker_mark v
   taker_value v = ap (λ (t : Bool). cond t (giver_mark v) (taker_mark v)) not_gives
@@ -110,7 +108,7 @@ module _ (net : Net) (wired : IsWired net) (turn : ℕ) (p : KeyPlace) (side_in 
     held_number a =
         let fits = a.fits here is_in in
         one_number (rows here) row fits.in_table in_table (λ j lt at.
-        let left = second_of_both (sets j (choice j)) (value_suits net p row j (choice j)) (a.from here is_in j lt at) in
+        let left = (and_parts (sets j (choice j)) (value_suits net p row j (choice j)) (a.from here is_in j lt at)).1 in
         let good = if_then (is_at_side net here j) (suits p (value_mark net here j (choice j)) (mark_at_joint net here row j)) left (at_test net here j at) in
         subst (λ (m : Mark). suits p m (mark_at_joint net here row j) ≡ true) (fit_mark net wired names choice here (rows here) j fits lt at) good)
 
@@ -128,4 +126,4 @@ module _ (net : Net) (wired : IsWired net) (turn : ℕ) (p : KeyPlace) (side_in 
         }
 
 pub held_within : (net : Net) (inside : ℕ → Bool) (p : KeyPlace) (row : ℕ) (sets : Family) → IsWithin net inside (held_to net p row sets) sets
-held_within net inside p row sets j side v lt at is h = first_of_both (sets j v) (value_suits net p row j v) h
+held_within net inside p row sets j side v lt at is h = (and_parts (sets j v) (value_suits net p row j v) h).0

@@ -1,8 +1,7 @@
 -- Joints of which one value alone is left.
 use Rattle.std.proofs.Common.{◌≡◌, ◌≢◌, ◌⊎◌, inl, inr, ℕ, ◌+◌, ◌<◌, Bool, true, false, not, ◌&&◌, List, [], length, get_or, refl, sym, ◌∙◌, subst, arith, below_more}
 use Rattle.std.specs.Bool.{◌==◌}
-use Rattle.std.proofs.lemmas.Bool.{cases_eq}
-use Rattle.reo_values.proofs.Truths.{no_both}
+use Rattle.std.proofs.lemmas.Bool.{cases_eq, both_ways}
 use Rattle.reo_rows.specs.RowFlags.{flag, AreAlikeTables}
 use Rattle.reo_rows.proofs.Codes.{flag_in}
 use Rattle.reo_propagate.specs.declared.thinning.Loss.{Loss}
@@ -17,7 +16,7 @@ module _ (joint code n : ℕ) (old now : List (List Bool)) (loss : Loss) (h : Is
     elsewhere = h.elsewhere;
     less = h.less;
     keeps = h.keeps;
-    only = below_more (λ c. flag now joint c ≡ true → c ≡ code) n h.only (λ f. elim good [ inl e ↦ e | inr gone ↦ absurd (no_both (flag now joint n) f gone) ]);
+    only = below_more (λ c. flag now joint c ≡ true → c ≡ code) n h.only (λ f. elim good [ inl e ↦ e | inr gone ↦ absurd (both_ways (flag now joint n) gone f) ]);
     same = h.same;
     flows = h.flows;
   }
@@ -33,7 +32,7 @@ module _ (joint code n : ℕ) (old now : List (List Bool)) (loss : Loss) (h : Is
     only = below_more (λ c. flag new joint c ≡ true → c ≡ code) n
         (λ c lt f. h.only c lt (kept_flag now new joint n is joint c f))
         (λ f. absurd (gone_flag now new joint n is f));
-    same = λ e. absurd (no_both more.some some e);
+    same = λ e. absurd (both_ways more.some e some);
     flows = λ e c four.
         let parts = flow e in
         other_flag now new joint n is joint c (inr (λ same. omega (arith, parts.1))) ∙ h.flows parts.0 c four;

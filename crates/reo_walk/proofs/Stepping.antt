@@ -1,6 +1,6 @@
 -- The steps of a walk.
 use Rattle.std.proofs.Common.{◌≡◌, inl, inr, ℕ, ◌+◌, ◌<◌, Bool, true, List, [], ◌∷◌, ◌++◌, length, refl, ap, sym, ◌∙◌, subst, arith, length-append}
-use Rattle.std.proofs.lemmas.Bool.{cases_lt}
+use Rattle.std.proofs.lemmas.Bool.{cases_lt, and_parts}
 use Rattle.reo_net_base.specs.Net.{Net, all_sides}
 use Rattle.reo_net_base.specs.Wired.{IsWired}
 use Rattle.reo_net_laws.specs.Ends.{IsRowOf}
@@ -19,7 +19,7 @@ use Rattle.reo_walk.specs.declared.place.KeyPlace.{KeyPlace}
 use Rattle.reo_walk.specs.Places.{side_of_place, number_of, numbers, suits, is_at_side, value_suits, held_to}
 use Rattle.reo_walk.specs.Settling.{HasNone, Settling}
 use Rattle.reo_walk.specs.Walking.{IsWalked, IsWalking, IsStuck, IsStepped}
-use Rattle.reo_walk.proofs.Numbering.{both, first_of_both, then_if, test_at, fit_mark, all_suit}
+use Rattle.reo_walk.proofs.Numbering.{both, then_if, test_at, fit_mark, all_suit}
 use Rattle.reo_walk.proofs.Settling.{walk_more, next_some, one_less}
 
 empty_numbers : (net : Net) (turn : ℕ) (places : List KeyPlace) (chosen : List ℕ) (rows : ℕ → ℕ) → 0 ≡ length places → length chosen ≡ length places → numbers net turn places rows ≡ chosen
@@ -91,5 +91,5 @@ module _ (net : Net) (wired : IsWired net) (names : Names) (inside : ℕ → Boo
     smaller = λ j side v lt at is h.
         both (now j v) (value_suits net p row j v) h
         (then_if (is_at_side net (side_of_place p) j) (suits p (value_mark net (side_of_place p) j v) (mark_at_joint net (side_of_place p) row j)) (λ t. suits_here j v lt (test_at net (side_of_place p) j t) h));
-    keeps = λ family within supported j side v lt at is h. first_of_both (now j v) (value_suits net p row j v) (within j side v lt at is h);
+    keeps = λ family within supported j side v lt at is h. (and_parts (now j v) (value_suits net p row j v) (within j side v lt at is h)).0;
   }

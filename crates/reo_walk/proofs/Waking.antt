@@ -2,7 +2,7 @@
 use Rattle.std.proofs.Common.{◌≡◌, ◌≢◌, ◌⊎◌, inl, inr, ℕ, ◌+◌, ◌<◌, ◌≤◌, Bool, true, false, not, cond, ◌&&◌, ◌||◌, List, [], length, get_or, refl, ap, sym, ◌∙◌, subst, arith}
 use Rattle.std.specs.Bool.{◌==◌}
 use Rattle.std.proofs.Math.ListN.{get_or-eq_default}
-use Rattle.std.proofs.lemmas.Bool.{cases_eq, cases_lt}
+use Rattle.std.proofs.lemmas.Bool.{cases_eq, cases_lt, both_ways, eq-eqb, ne_eqb}
 use Rattle.reo_net_base.specs.Net.{Net}
 use Rattle.reo_net_base.specs.Sides.{side_count}
 use Rattle.reo_net_base.specs.Wired.{IsWired}
@@ -10,8 +10,6 @@ use Rattle.reo_joint_values.specs.declared.value.JointValue.{JointValue}
 use Rattle.reo_joint_values.specs.declared.value.JointValue.TheVariants.{Flow}
 use Rattle.reo_joint_values.specs.Values.{Names, Family, giver_side, taker_side, AtSide}
 use Rattle.reo_joint_values.specs.Works.{RowWorks}
-use Rattle.reo_values.proofs.Truths.{no_both}
-use Rattle.reo_values.proofs.Naturals.{same_eq, other_eq}
 use Rattle.reo_side_tables.specs.Listing.{StandsIn}
 use Rattle.reo_side_tables.specs.Marks.{IsJointOf, group_in}
 use Rattle.reo_rows.specs.declared.rows.Rows.{Rows}
@@ -67,14 +65,14 @@ module _ (net : Net) (names : Names) (inside : ℕ → Bool) (todo : ℕ → Boo
   other_for false b is = refl
 
   other_one : (s : ℕ) → s ≢ side → without side todo s ≡ todo s
-  other_one s apart = other_for (todo s) (s == side) (other_eq s side apart)
+  other_one s apart = other_for (todo s) (s == side) (ne_eqb s side apart)
 
   here_for : (a b : Bool) → b ≡ true → (a && not b) ≡ false
   here_for true b is = ap not is
   here_for false b is = refl
 
   here_one : without side todo side ≡ false
-  here_one = here_for (todo side) (side == side) (same_eq side side refl)
+  here_one = here_for (todo side) (side == side) (eq-eqb side side refl)
 
   family_other : (s : ℕ) → s ≢ side → cond (without side todo s) old new ≡ cond (todo s) old new
   family_other s apart = ap (λ (t : Bool). cond t old new) (other_one s apart)
@@ -97,7 +95,7 @@ module _ (net : Net) (names : Names) (inside : ℕ → Bool) (todo : ℕ → Boo
       | inr apart ↦ subst (λ (f : Family). AreLive net names f s rows_old) (sym (family_other s apart)) (kept.works s s_in)
     ]);
     at_rest = λ s s_in slept. subst (λ (r : Rows). IsAtRest net names (cond (without side todo s) old new) s r) (sym same) (elim (cases_eq s side) [
-      | inl e ↦ absurd (no_both (get_or after.waits s true) (ap (λ (x : ℕ). get_or after.waits x true) e ∙ w.here) slept)
+      | inl e ↦ absurd (both_ways (get_or after.waits s true) slept (ap (λ (x : ℕ). get_or after.waits x true) e ∙ w.here))
       | inr apart ↦ subst (λ (f : Family). IsAtRest net names f s rows_old) (sym (family_other s apart)) (kept.at_rest s s_in (sym (w.other s apart) ∙ slept))
     ]);
     waiting = λ s s_in waits. elim (cases_eq s side) [
@@ -176,7 +174,7 @@ abbrev pub two_sides : ℕ → ℕ → ℕ → Bool
 two_sides a b s = (s == a) || (s == b)
 
 two_first : (a b : ℕ) → two_sides a b a ≡ true
-two_first a b = or_for (a == a) (a == b) (inl (same_eq a a refl))
+two_first a b = or_for (a == a) (a == b) (inl (eq-eqb a a refl))
   where
     or_for : (x y : Bool) → (x ≡ true) ⊎ (y ≡ true) → (x || y) ≡ true
     or_for true y h = refl
@@ -184,7 +182,7 @@ two_first a b = or_for (a == a) (a == b) (inl (same_eq a a refl))
     or_for false y (inr h) = h
 
 neither : (a b s : ℕ) → two_sides a b s ≡ false → (s ≢ a) × (s ≢ b)
-neither a b s h = (λ e. no_both (two_sides a b s) (or_one (s == a) (s == b) (same_eq s a e)) h, λ e. no_both (two_sides a b s) (or_two (s == a) (s == b) (same_eq s b e)) h)
+neither a b s h = (λ e. both_ways (two_sides a b s) h (or_one (s == a) (s == b) (eq-eqb s a e)), λ e. both_ways (two_sides a b s) h (or_two (s == a) (s == b) (eq-eqb s b e)))
   where
     or_one : (x y : Bool) → x ≡ true → (x || y) ≡ true
     or_one true y h = refl
@@ -195,7 +193,7 @@ neither a b s h = (λ e. no_both (two_sides a b s) (or_one (s == a) (s == b) (sa
     or_two false y h = h
 
 second_left : (a b : ℕ) → a ≢ b → without a (two_sides a b) b ≡ true
-second_left a b apart = left_for (b == a) (b == b) (other_eq b a (λ e. apart (sym e))) (same_eq b b refl)
+second_left a b apart = left_for (b == a) (b == b) (ne_eqb b a (λ e. apart (sym e))) (eq-eqb b b refl)
   where
     left_for : (x y : Bool) → x ≡ false → y ≡ true → ((x || y) && not x) ≡ true
     left_for true y h k = cc
@@ -213,7 +211,7 @@ none_left a b s = none_for (s == a) (s == b)
 slept_in : (waits : List Bool) (side : ℕ) → get_or waits side true ≡ false → side < length waits
 slept_in waits side slept = elim (cases_lt side (length waits)) [
   | inl lt ↦ lt
-  | inr ge ↦ absurd (no_both (get_or waits side true) (get_or-eq_default waits true ge) slept)
+  | inr ge ↦ absurd (both_ways (get_or waits side true) slept (get_or-eq_default waits true ge))
 ]
 
 -- A joint lost values that do not suit, and both its sides were woken.

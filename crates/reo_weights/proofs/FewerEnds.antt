@@ -12,8 +12,8 @@ use Rattle.reo_net_base.specs.Wired.{IsWired, IsEnd}
 use Rattle.reo_net_circuit.proofs.NetLemmas.{first_before}
 use Rattle.reo_net_laws.specs.Alike.{AreAlike}
 use Rattle.reo_net_laws.specs.Ends.{mark_in, from_in, IsRowOf}
-use Rattle.reo_net_laws.proofs.Assignments.{side_other}
-use Rattle.reo_net_laws.proofs.Sides.{Owner, owner_of, owner_side, owner_at, side_at_place}
+use Rattle.reo_weights.proofs.Assignments.{side_other}
+use Rattle.reo_weights.proofs.Sides.{Owner, owner_of, owner_side, owner_at, side_at_place}
 use Rattle.reo_weights.specs.Fewer.{StandsFor, HasFewerRows}
 
 -- Sides of two primitives have different numbers.

@@ -10,8 +10,8 @@ use Rattle.reo_net_base.specs.Net.{Net, all_sides, behaviour_at, end_of, side_at
 use Rattle.reo_net_base.specs.Colouring.{taken_at}
 use Rattle.reo_net_base.specs.Wired.{IsWired, IsEnd}
 use Rattle.reo_net_laws.specs.Ends.{mark_in, from_in, IsRowOf}
-use Rattle.reo_net_laws.proofs.Sides.{side_in_range}
-use Rattle.reo_net_laws.proofs.Assignments.{side_same}
+use Rattle.reo_weights.proofs.Sides.{side_in_range}
+use Rattle.reo_weights.proofs.Assignments.{side_same}
 use Rattle.reo_joint_values.specs.declared.value.JointValue.{JointValue}
 use Rattle.reo_joint_values.specs.declared.value.JointValue.TheVariants.{Flow, RG, GR, GG, Jam}
 use Rattle.reo_joint_values.specs.Values.{Names, Choice, Family, item_named, items_of, no_joint, joint_of, giver_side, taker_side, AtSide}

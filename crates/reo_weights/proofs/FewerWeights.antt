@@ -10,7 +10,7 @@ use Rattle.reo_net_base.specs.Behaviour.{Behaviour}
 use Rattle.reo_net_base.specs.Net.{Net, side_at}
 use Rattle.reo_net_base.specs.Wired.{IsWired, IsOrder}
 use Rattle.reo_net_laws.specs.Parts.{IsClosedBelow, IsClosed}
-use Rattle.reo_net_laws.proofs.Assignments.{side_same}
+use Rattle.reo_weights.proofs.Assignments.{side_same}
 use Rattle.reo_net_laws.proofs.Isolation.{same_net}
 use Rattle.reo_net_laws.specs.Knots.{IsLoop}
 use Rattle.reo_joint_values.specs.Standing.{no_joint}

@@ -7,7 +7,7 @@ use Rattle.std.proofs.lemmas.Bool.{cases_eq, cases_lt, not_from_false, not_from_
 use Rattle.reo_net_base.specs.Net.{Net}
 use Rattle.reo_net_base.specs.Sides.{side_count}
 use Rattle.reo_net_base.specs.Wired.{IsWired}
-use Rattle.reo_net_laws.proofs.Sides.{side_in_range}
+use Rattle.reo_weights.proofs.Sides.{side_in_range}
 use Rattle.reo_joint_values.specs.Many.{IsJointIn}
 use Rattle.reo_joint_values.specs.declared.value.JointValue.{JointValue}
 use Rattle.reo_joint_values.specs.declared.value.JointValue.TheVariants.{Flow, RG, GR, GG, Jam}

@@ -19,3 +19,5 @@ pub mod FewerSupport
 pub mod FewerWeights
 pub mod BoundLemmas
 pub mod BoundWeights
+pub mod Assignments
+pub mod Sides

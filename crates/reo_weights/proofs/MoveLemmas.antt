@@ -2,11 +2,10 @@
 use Rattle.std.proofs.Common.{◌≡◌, ◌⊎◌, inl, inr, ℕ, ◌<◌, List, Bool, true, false, length, Option, Some, None, refl, ap, sym, ◌∙◌, arith}
 use Rattle.std.specs.Prelude.{◌&&◌}
 use Rattle.std.specs.Option.{is_some, option_and_then}
-use Rattle.std.proofs.lemmas.Bool.{cases_Bool, cases_lt, and_from}
+use Rattle.std.proofs.lemmas.Bool.{cases_Bool, cases_lt, and_from, and_parts}
 use Rattle.std.proofs.lemmas.List.{same_lists}
 use Rattle.std.proofs.lemmas.List.FromFn.{get_or-map-range_with_len}
 use Rattle.reo_values.specs.declared.value.Value.{Value}
-use Rattle.reo_values.proofs.Truths.{and_left, and_right}
 use Rattle.reo_net_base.specs.declared.joint.End.{End}
 use Rattle.reo_net_base.specs.Net.{Net, end_of, side_at}
 use Rattle.reo_net_base.specs.Colouring.{taken_at}
@@ -187,10 +186,10 @@ module _ (net : Net) (inside : ℕ → Bool) where
         let whole = g.within j (giver_side net j) v is.0 (inl refl) is.1 g.has in
         record {
           family = moved_family g.family;
-          within = λ i side w lt at side_is h. and_left (all_values b i w) (g.family i (move b a b_are a_are i w)) h;
+          within = λ i side w lt at side_is h. (and_parts (all_values b i w) (g.family i (move b a b_are a_are i w)) h).0;
           supported = λ side side_is i w lt at h.
-              moved_used g.family g.within side i w side_is lt at (and_left (all_values b i w) (g.family i (move b a b_are a_are i w)) h)
-              (g.supported side side_is i (move b a b_are a_are i w) lt at (and_right (all_values b i w) (g.family i (move b a b_are a_are i w)) h));
+              moved_used g.family g.within side i w side_is lt at ((and_parts (all_values b i w) (g.family i (move b a b_are a_are i w)) h).0)
+              (g.supported side side_is i (move b a b_are a_are i w) lt at ((and_parts (all_values b i w) (g.family i (move b a b_are a_are i w)) h).1));
           has = and_from (all_values b j (move a b a_are b_are j v)) (g.family j (move b a b_are a_are j (move a b a_are b_are j v))) (move_says a b a_are b_are j v is).whole
               (ap (g.family j) (move_back a b a_are b_are j is v whole) ∙ g.has);
         }

@@ -10,7 +10,7 @@ use Rattle.reo_net_base.specs.Net.{Net, side_at}
 use Rattle.reo_net_base.specs.Sides.{side_count}
 use Rattle.reo_net_base.specs.Wired.{IsWired}
 use Rattle.reo_net_laws.specs.Parts.{SameKnot, IsLinked}
-use Rattle.reo_net_laws.proofs.Sides.{side_in_range}
+use Rattle.reo_weights.proofs.Sides.{side_in_range}
 use Rattle.reo_net_laws.specs.Knots.{AreNumbers, IsLoop}
 use Rattle.reo_net_laws.specs.KnotLabels.{AreLabels, same_label, renamed}
 use Rattle.reo_net_laws.proofs.Knots.{numbered}

@@ -2,10 +2,8 @@
 use Rattle.std.proofs.Common.{◌≡◌, inl, inr, ℕ, ◌<◌, List, [], ◌∷◌, ◌++◌, length, get_or, sym, ◌∙◌, subst}
 use Rattle.std.specs.Prelude.{nat_lt}
 use Rattle.std.specs.Bool.{◌==◌}
-use Rattle.std.proofs.lemmas.Bool.{and_parts}
+use Rattle.std.proofs.lemmas.Bool.{and_parts, eqb-true, or_cases}
 use Rattle.std.proofs.lemmas.List.{get_or_default}
-use Rattle.reo_values.proofs.Naturals.{eq_same}
-use Rattle.reo_values.proofs.Truths.{either}
 use Rattle.reo_net_base.specs.declared.joint.Joint.{Joint}
 use Rattle.reo_net_base.specs.Net.{Net, side_at}
 use Rattle.reo_net_laws.specs.Knots.{Knotted, AreKnots, IsLoopOf, in_knot, knot_count}
@@ -21,7 +19,7 @@ use Rattle.reo_yardstick.specs.Bounds.{AreBelow, AreSingle}
 -- A value more is below the bound.
 pub below_more : (values : List JointValue) (w : JointValue) (bound : ℕ) → AreBelow values bound → code_of w < bound
     → AreBelow (values ++ w ∷ []) bound
-below_more values w bound below lt v h = elim (either (in_set values v) (value_eq w v) (sym (set_more values w v) ∙ h)) [
+below_more values w bound below lt v h = elim (or_cases (in_set values v) (value_eq w v) (sym (set_more values w v) ∙ h)) [
   | inl old ↦ below v old
   | inr here ↦ subst (λ (x : JointValue). code_of x < bound) (same_value w v here) lt
 ]
@@ -32,7 +30,7 @@ pub one_each : (net : Net) (knots : Knotted) (knot : ℕ) (sets : List (List Joi
     → OneAtLoops net (in_knot knots.numbers knot) (listed sets)
 one_each net knots knot sets are lt single j v w below inside closes hv hw =
     let giver : ℕ = giver_side net j in
-    let here : get_or knots.numbers giver 0 ≡ knot = eq_same (get_or knots.numbers giver 0) knot (and_parts (nat_lt giver (length knots.numbers)) (get_or knots.numbers giver 0 == knot) inside).1 in
+    let here : get_or knots.numbers giver 0 ≡ knot = eqb-true (get_or knots.numbers giver 0) knot (and_parts (nat_lt giver (length knots.numbers)) (get_or knots.numbers giver 0 == knot) inside).1 in
     let loops = are.loops_are knot [] lt in
     let loop : IsLoopOf net knots.numbers knot j = record {
       in_range = below;

@@ -1,7 +1,7 @@
 -- From what was read and written to what the command has come to.
 use Rattle.std.proofs.Common.{◌≡◌, ◌∙◌, ◌⊎◌, inl, inr, ℕ, Bool, true, false, List, sym, subst, ap, refl, arith}
+use Rattle.std.proofs.lemmas.Bool.{both_ways}
 use Rattle.std.specs.Prelude.{◌≢◌, ◌||◌, Err}
-use Rattle.reo_values.proofs.Truths.{no_both}
 use Rattle.reo_command.specs.declared.role.Role.{Role}
 use Rattle.reo_command.specs.declared.stop.Stop.{Stop}
 use Rattle.reo_command.specs.declared.stop.Stop.TheVariants.{Missed, TooLong, Refused, NoMemory}
@@ -125,7 +125,7 @@ module _ {X : Type 0} (Reads : List Content → X → Type 0) (Stops : List Cont
       exact = made_exact free exact;
       blames = record {
         only = three;
-        told = λ gone. absurd (no_both (has_gone answers) gone (law.here x reads));
+        told = λ gone. absurd (both_ways (has_gone answers) (law.here x reads) gone);
       };
     }
 

@@ -1,7 +1,7 @@
 -- What was written for what stopped a command, and for what it made.
 use Rattle.std.proofs.Common.{◌≡◌, ◌⊎◌, inl, inr, refl, ℕ, true, false, List, arith}
+use Rattle.std.proofs.lemmas.Bool.{both_ways}
 use Rattle.std.specs.Prelude.{◌≢◌}
-use Rattle.reo_values.proofs.Truths.{no_both}
 use Rattle.reo_command.specs.declared.role.Role.{Role}
 use Rattle.reo_command.specs.declared.role.Role.TheVariants.{Circuit, Script, Trace, Proof}
 use Rattle.reo_command.specs.declared.stop.Stop.{Stop}
@@ -48,6 +48,6 @@ stop_only NoMemory sink code h three = absurd (omega (arith, h.0, three))
 
 pub stop_told : (stop : Stop) (sink : Change SinkState) (code : ℕ) → IsRefusedAs stop sink code → is_missed stop ≡ true → (code ≡ 3) ⊎ (code ≡ 9)
 stop_told (Missed role) sink code h is = line_code sink code _ _ h
-stop_told (TooLong role) sink code h is = absurd (no_both false is refl)
-stop_told (Refused role r) sink code h is = absurd (no_both false is refl)
-stop_told NoMemory sink code h is = absurd (no_both false is refl)
+stop_told (TooLong role) sink code h is = absurd (both_ways false refl is)
+stop_told (Refused role r) sink code h is = absurd (both_ways false refl is)
+stop_told NoMemory sink code h is = absurd (both_ways false refl is)

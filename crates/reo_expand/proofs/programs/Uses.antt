@@ -4,8 +4,7 @@ use Rattle.std.specs.Prelude.{◌||◌}
 use Rattle.std.specs.List.{list_any}
 use Rattle.std.proofs.lemmas.Grind.{flat_map-append}
 use Rattle.std.proofs.lemmas.List.Folds.{list_any-append}
-use Rattle.std.proofs.Math.Bool.{or_assoc}
-use Rattle.reo_values.proofs.Truths.{or_false}
+use Rattle.std.proofs.Math.Bool.{or_assoc, or-false}
 use Rattle.reo_trees.specs.declared.items.Item.{Item}
 use Rattle.reo_trees.specs.declared.programs.Connector.{Connector}
 use Rattle.reo_trees.specs.declared.programs.Declaration.{Declaration}
@@ -27,13 +26,13 @@ connectors-append ds es = flat_map-append connector_in ds es
 
 -- A named type uses nothing, and a connector what its items use.
 pub named_uses : (d : Declaration) (line : ℕ) (name : List ℕ) (term : _) (n : List ℕ) (b : Bool) → d ≡ declarations.Named line name term → b ≡ (b || has_use (connector_in d) n)
-named_uses d line name term n b is = sym (ap (λ x. b || has_use (connector_in x) n) is ∙ or_false b)
+named_uses d line name term n b is = sym (ap (λ x. b || has_use (connector_in x) n) is ∙ or-false b)
 
 pub made_uses : (d : Declaration) (c : Connector) (n : List ℕ) (b r : Bool) → d ≡ declarations.Made c
     → r ≡ (b || list_any (λ (i : Item). is_use_of n i.form) c.items) → r ≡ (b || has_use (connector_in d) n)
 made_uses d c n b r is e =
     e
-    ∙ ap (λ u. b || u) (sym (or_false (list_any (λ (i : Item). is_use_of n i.form) c.items)))
+    ∙ ap (λ u. b || u) (sym (or-false (list_any (λ (i : Item). is_use_of n i.form) c.items)))
     ∙ ap (λ x. b || has_use (connector_in x) n) (sym is)
 
 pub noted_more : (ds : List Declaration) (i : ℕ) (d : Declaration) (n : List ℕ) (old now next : Bool) → i < length ds → d ≡ get_or ds i d

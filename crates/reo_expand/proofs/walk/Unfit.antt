@@ -1,8 +1,8 @@
 -- No connector of a name fits a use, as it is told by a table and by the steps.
 use Rattle.std.proofs.Common.{◌≡◌, ◌∙◌, ℕ, Bool, true, false, not, Option, Some, None, is_some, is_none, List, [], ◌∷◌, refl, ap, sym}
+use Rattle.std.proofs.Math.Bool.{and-false}
 use Rattle.std.specs.Prelude.{◌||◌, ◌&&◌}
 use Rattle.std.specs.List.{list_any, list_all}
-use Rattle.reo_values.proofs.Truths.{and_false}
 use Rattle.reo_trees.specs.declared.indexes.Index.{Index}
 use Rattle.reo_trees.specs.declared.programs_two.ConnectorTwo.{ConnectorTwo}
 use Rattle.reo_expand.specs.base.Steps.{none_fits}
@@ -14,7 +14,7 @@ one_more false b r s e h = ap (λ b. not (b || s)) (sym e)
 
 joined : (a b r s t : Bool) → b ≡ not a → t ≡ not s → ((a || r) && not (b || s)) ≡ (a && t)
 joined true b r s t e h = ap (λ b. not (b || s)) e ∙ sym h
-joined false b r s t e h = ap (λ b. r && not (b || s)) e ∙ and_false r
+joined false b r s t e h = ap (λ b. r && not (b || s)) e ∙ and-false r
 
 module _ {X : Type 0} (p q : X → Bool) (opposite : (x : X) → q x ≡ not (p x)) where
   all-not : (xs : List X) → list_all p xs ≡ not (list_any q xs)

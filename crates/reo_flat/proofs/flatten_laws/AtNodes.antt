@@ -1,9 +1,9 @@
 -- Ends at a node are at that node.
 use Rattle.std.proofs.Common.{arith, ◌≡◌, ◌∙◌, ℕ, ◌+◌, ◌≤◌, zero, suc, List, [], ◌∷◌, ◌++◌, length, get_or, Bool, true, false, ◌&&◌, cond, refl, sym, ap, subst, bytes_eq}
+use Rattle.std.proofs.lemmas.Bool.{and_parts}
 use Rattle.std.specs.List.{AllByRecursion}
 use Rattle.std.proofs.lemmas.List.{append_assoc, length-append}
 use Rattle.std.proofs.lemmas.Slice.Eq.{bytes_eq-Decides}
-use Rattle.reo_values.proofs.Truths.{and_left}
 use Rattle.reo_net_base.specs.declared.joint.End.{End}
 use Rattle.reo_net_base.specs.declared.joint.Joint.{Joint}
 use Rattle.reo_net_base.specs.Behaviour.{Behaviour}
@@ -36,7 +36,7 @@ module _ (node : List ℕ) (takes : Bool) (front : List Placed) (p : Placed) (re
       both (IsAtNode whole node) (where_true (bytes_eq node n && bool_eq (b.takes_in x) takes) (end_of i x)) (ends_in b takes node i (suc x) ns)
       (one_end (IsAtNode whole node) (end_of i x) (bytes_eq node n && bool_eq (b.takes_in x) takes) (λ is d below.
       ap (λ k. get_or (get_or whole k d).nodes x []) at ∙ ap (λ (q : Placed). get_or q.nodes x []) (at_front front p rest d) ∙ ap (λ ms. get_or ms x []) split ∙ ap (λ k. get_or (before ++ n ∷ ns) k []) place
-      ∙ at_front before n ns [] ∙ sym ((bytes_eq-Decides node n).0 (and_left (bytes_eq node n) _ is))))
+      ∙ at_front before n ns [] ∙ sym ((bytes_eq-Decides node n).0 ((and_parts (bytes_eq node n) _ is).0))))
       (in_one b i at (before ++ n ∷ []) ns (split ∙ sym (append_assoc before (n ∷ []) ns)) (suc x) (let l = length-append before (n ∷ []) in omega arith))
 
 all_at : (node : List ℕ) (takes : Bool) (front ps : List Placed) (i : ℕ) → i ≡ length front → AllByRecursion (IsAtNode (front ++ ps) node) (ends_from takes node i ps)

@@ -2,13 +2,12 @@
 use Rattle.std.proofs.Common.{arith, lit≤, ◌≡◌, ◌∙◌, ℕ, ◌≤◌, suc, Bool, true, false, not, ◌&&◌, ◌||◌, Option, Some, None, List, [], ◌∷◌, length, refl, sym, ap, subst}
 use Rattle.std.specs.Prelude.{is_none, option_map}
 use Rattle.std.specs.List.{list_any}
-use Rattle.std.proofs.lemmas.Bool.{leb-false}
+use Rattle.std.proofs.lemmas.Bool.{leb-false, not-false, or_parts}
 use Rattle.reo_values.specs.declared.value.Value.{Value}
 use Rattle.reo_values.specs.declared.kindred.Kindred as kindred
 use Rattle.reo_values.specs.declared.kindred.Kindred.{Kindred}
 use Rattle.reo_values.specs.declared.kindred.Kindred.TheVariants as kinds
 use Rattle.reo_values.specs.Kind.{IsIn}
-use Rattle.reo_values.proofs.Truths.{not_false, either_false}
 use Rattle.reo_exprs.specs.declared.expr.Expr.{Expr}
 use Rattle.reo_exprs.specs.Kinds.{kind_of, LiesInside}
 use Rattle.reo_exprs.specs.Typing.{kind_of_expr, type_of_expr}
@@ -72,13 +71,13 @@ filter_rule : (a : Kindred) (o : Option Expr) → not (has_kind a kinds.Bool o) 
 filter_rule a None kind bound = absurd (cc)
 filter_rule a (Some e) kind bound =
     let typed = some_of (type_of_expr e a) bound in
-    let same = kind_told kinds.Bool (kind_of_expr e a) (kind_of typed.0) (not_false _ kind) (kind_of_typed e a typed.0 typed.1) in
+    let same = kind_told kinds.Bool (kind_of_expr e a) (kind_of typed.0) (not-false _ kind) (kind_of_typed e a typed.0 typed.1) in
     let rule = filter_is e a (type_of_expr e a) refl (typed.1 ∙ ap (λ (t : Kindred). Some t) (truth_kind typed.0 same)) in
     (rule.0, rule.1, rule.2, ap (λ (f : Expr). Some f) (sym rule.3))
 
 lies_told : (b : Kindred) (o : Option Kindred) → not (lies_in b o) ≡ false → (t : Kindred) × (o ≡ Some t) × LiesInside t b
 lies_told b None h = absurd (cc)
-lies_told b (Some t) h = (t, refl, (inside_told t b).0 (not_false _ h))
+lies_told b (Some t) h = (t, refl, (inside_told t b).0 (not-false _ h))
 
 not_none : (o : Option Kindred) (t : Kindred) → o ≡ Some t → is_none o ≡ false
 not_none None t h = absurd (cc)
@@ -117,7 +116,7 @@ channel_is types a b (channels.Map t) typed bound =
     subst (λ (k : Kind). IsFor types a (channels.Map t) k) (sym rule.1) (rule.2, rule.3)
 channel_is types a b (channels.Shift size held) typed bound = (refl, items_all a held (parts_told types a b (channels.Shift size held) typed).1)
 channel_is types a b (channels.Variable None) typed bound = refl
-channel_is types a b (channels.Variable (Some l)) typed bound = item_there (item_of a l) (either_false _ _ (parts_told types a b (channels.Variable (Some l)) typed).1)
+channel_is types a b (channels.Variable (Some l)) typed bound = item_there (item_of a l) ((or_parts _ _ (parts_told types a b (channels.Variable (Some l)) typed).1).0)
 channel_is types a b (channels.Quota number) typed bound = refl
 
 -- What is known of the channel of a text.
@@ -136,26 +135,26 @@ is_buffer : (size : ℕ) (a : Kindred) (ls : List Literal) → 1 ≤ size → si
 is_buffer size a ls some few fits = let fewer = few_items a ls in record { some = some; few = few; fits = omega arith }
 
 pub channel_fits : (types : List Typed) (a b : Kindred) (c : Channel) → is_channel_mistyped types a b c ≡ false → leaves types a b c ≡ false → IsSound types c → Fits (channel_kind types a c) (a ∷ b ∷ [])
-channel_fits types a b channels.Sync typed bound sound = same_types a b (not_false _ (parts_told types a b channels.Sync typed).0)
-channel_fits types a b channels.Lossy typed bound sound = same_types a b (not_false _ (parts_told types a b channels.Lossy typed).0)
+channel_fits types a b channels.Sync typed bound sound = same_types a b (not-false _ (parts_told types a b channels.Sync typed).0)
+channel_fits types a b channels.Lossy typed bound sound = same_types a b (not-false _ (parts_told types a b channels.Lossy typed).0)
 channel_fits types a b channels.SyncDrain typed bound sound = tt
 channel_fits types a b channels.AsyncDrain typed bound sound = tt
 channel_fits types a b (channels.Fifo1 held) typed bound sound =
     let ls = literals_of (channels.Fifo1 held) in (
-      same_types a b (not_false _ (parts_told types a b (channels.Fifo1 held) typed).0),
+      same_types a b (not-false _ (parts_told types a b (channels.Fifo1 held) typed).0),
       each_of (λ v. IsIn v a) (items_of a ls) (items_in a ls),
       is_buffer 1 a ls (lit≤ tt) (lit≤ tt) (few_first held),
     )
 channel_fits types a b (channels.Fifo size held) typed bound sound =
     let short = leb-false (suc size) (length held) bound in (
-      same_types a b (not_false _ (parts_told types a b (channels.Fifo size held) typed).0),
+      same_types a b (not-false _ (parts_told types a b (channels.Fifo size held) typed).0),
       each_of (λ v. IsIn v a) (items_of a held) (items_in a held),
       is_buffer size a held sound.0 sound.1 (omega arith),
     )
 channel_fits types a b (channels.Filter t) typed bound sound =
     let parts = parts_told types a b (channels.Filter t) typed in
     let rule = filter_rule a (expr_of types t.form) parts.2 bound in
-    subst (λ (k : Kind). Fits k (a ∷ b ∷ [])) (sym rule.1) (same_types a b (not_false _ parts.0), rule.2, sound rule.0.expr rule.3)
+    subst (λ (k : Kind). Fits k (a ∷ b ∷ [])) (sym rule.1) (same_types a b (not-false _ parts.0), rule.2, sound rule.0.expr rule.3)
 channel_fits types a b (channels.Map t) typed bound sound =
     let rule = map_rule a b (expr_of types t.form) (parts_told types a b (channels.Map t) typed).2 bound in
     let well = sound rule.0.expr rule.3 in
@@ -163,10 +162,10 @@ channel_fits types a b (channels.Map t) typed bound sound =
     (rule.2, well, (λ v member. item_inside rule.4.0 b (value_of_expr rule.0.expr v) rule.4.2 (value_in_type rule.0.expr a rule.4.0 v well rule.4.1 member)))
 channel_fits types a b (channels.Shift size held) typed bound sound =
     let short = leb-false (suc size) (length held) bound in (
-      same_types a b (not_false _ (parts_told types a b (channels.Shift size held) typed).0),
+      same_types a b (not-false _ (parts_told types a b (channels.Shift size held) typed).0),
       each_of (λ v. IsIn v a) (items_of a held) (items_in a held),
       is_buffer size a held sound.0 sound.1 (omega arith),
     )
-channel_fits types a b (channels.Variable None) typed bound sound = (same_types a b (not_false _ (parts_told types a b (channels.Variable None) typed).0), (λ v is. absurd (cc)))
-channel_fits types a b (channels.Variable (Some l)) typed bound sound = (same_types a b (not_false _ (parts_told types a b (channels.Variable (Some l)) typed).0), (λ v is. item_in a l v is))
-channel_fits types a b (channels.Quota number) typed bound sound = same_types a b (not_false _ (parts_told types a b (channels.Quota number) typed).0)
+channel_fits types a b (channels.Variable None) typed bound sound = (same_types a b (not-false _ (parts_told types a b (channels.Variable None) typed).0), (λ v is. absurd (cc)))
+channel_fits types a b (channels.Variable (Some l)) typed bound sound = (same_types a b (not-false _ (parts_told types a b (channels.Variable (Some l)) typed).0), (λ v is. item_in a l v is))
+channel_fits types a b (channels.Quota number) typed bound sound = same_types a b (not-false _ (parts_told types a b (channels.Quota number) typed).0)

@@ -1,12 +1,10 @@
 -- A connector whose names all have their ends.
 use Rattle.std.proofs.Common.{◌≡◌, ◌∙◌, ℕ, List, [], ◌∷◌, ◌++◌, map, Bool, true, false, cond, ◌&&◌, ◌||◌, ◌⊎◌, inl, inr, zip, refl, sym, ap, subst, bytes_eq}
 use Rattle.std.specs.List.{AllByRecursion, flat_map}
-use Rattle.std.proofs.lemmas.Bool.{eqb-true}
+use Rattle.std.proofs.lemmas.Bool.{eqb-true, or_cases, and_parts}
 use Rattle.std.proofs.lemmas.List.{length-map}
 use Rattle.std.proofs.lemmas.List.Folds.{list_any-append}
 use Rattle.std.proofs.lemmas.Slice.Eq.{bytes_eq-Decides}
-pub use Rattle.reo_values.proofs.Truths.{and_both as each}
-use Rattle.reo_values.proofs.Truths.{either}
 use Rattle.reo_trees.specs.declared.items.Item.{Item}
 use Rattle.reo_trees.specs.declared.items.ItemForm.{ItemForm}
 use Rattle.reo_trees.specs.declared.items.ItemForm.TheVariants as forms
@@ -78,10 +76,10 @@ module _ (cs : List Connector) (ms : List Meaning) (serving : AreServing cs ms) 
       → (name : List ℕ) (w : Bool) → is_touched (map (λ (q : List ℕ × Parameter). touch q.0 q.1.inward) (zip names qs)) name w ≡ true → HasEnd w (flat name) channels
   in_zip channels [] qs given name w is = absurd (cc)
   in_zip channels (n ∷ ns) [] given name w is = absurd (cc)
-  in_zip channels (n ∷ ns) (q ∷ qs) given name w is = step (either (bytes_eq name n && bool_eq q.inward w) (is_touched (map (λ (r : List ℕ × Parameter). touch r.0 r.1.inward) (zip ns qs)) name w) is) (in_zip channels ns qs given.1 name w) where
+  in_zip channels (n ∷ ns) (q ∷ qs) given name w is = step (or_cases (bytes_eq name n && bool_eq q.inward w) (is_touched (map (λ (r : List ℕ × Parameter). touch r.0 r.1.inward) (zip ns qs)) name w) is) (in_zip channels ns qs given.1 name w) where
     step : ((bytes_eq name n && bool_eq q.inward w) ≡ true) ⊎ (is_touched (map (λ (r : List ℕ × Parameter). touch r.0 r.1.inward) (zip ns qs)) name w ≡ true) → (is_touched (map (λ (r : List ℕ × Parameter). touch r.0 r.1.inward) (zip ns qs)) name w ≡ true → HasEnd w (flat name) channels) → HasEnd w (flat name) channels
     step (inl here) rest =
-        let two = each (bytes_eq name n) (bool_eq q.inward w) here in
+        let two = and_parts (bytes_eq name n) (bool_eq q.inward w) here in
         let same = (bytes_eq-Decides name n).0 two.0 in
         subst (λ v. HasEnd v (flat name) channels) (equal q.inward w two.1) (subst (λ m. HasEnd q.inward (flat m) channels) (sym same) given.0)
     step (inr later) rest = rest later
@@ -90,15 +88,15 @@ module _ (cs : List Connector) (ms : List Meaning) (serving : AreServing cs ms) 
   one_touch : (before : List Item) (line : ℕ) (f : ItemForm) → arity_in_item cs line f ≡ [] → (name : List ℕ) (w : Bool) → is_touched (touches_in cs f) name w ≡ true → HasEnd w (flat name) (channels_in ms types scope path (flat_name path ps arguments) before f)
   one_touch before line (forms.Node x term) fits name w is = absurd (cc)
   one_touch before line (forms.Joined channel first second) fits name w is =
-      step (either (bytes_eq name first && bool_eq true w) ((bytes_eq name second && bool_eq (is_drain channel) w) || false) is) where
+      step (or_cases (bytes_eq name first && bool_eq true w) ((bytes_eq name second && bool_eq (is_drain channel) w) || false) is) where
         step : ((bytes_eq name first && bool_eq true w) ≡ true) ⊎ (((bytes_eq name second && bool_eq (is_drain channel) w) || false) ≡ true) → HasEnd w (flat name) (channels_in ms types scope path (flat_name path ps arguments) before (forms.Joined channel first second))
         step (inl here) =
-            let two = each (bytes_eq name first) (bool_eq true w) here in
+            let two = and_parts (bytes_eq name first) (bool_eq true w) here in
             inl (inl (ap flat ((bytes_eq-Decides name first).0 two.0), (channel_ways types (type_named scope first) channel).0 ∙ equal true w two.1))
-        step (inr there) = next (either (bytes_eq name second && bool_eq (is_drain channel) w) false there) where
+        step (inr there) = next (or_cases (bytes_eq name second && bool_eq (is_drain channel) w) false there) where
           next : ((bytes_eq name second && bool_eq (is_drain channel) w) ≡ true) ⊎ (false ≡ true) → HasEnd w (flat name) (channels_in ms types scope path (flat_name path ps arguments) before (forms.Joined channel first second))
           next (inl here) =
-              let two = each (bytes_eq name second) (bool_eq (is_drain channel) w) here in
+              let two = and_parts (bytes_eq name second) (bool_eq (is_drain channel) w) here in
               inl (inr (inl (ap flat ((bytes_eq-Decides name second).0 two.0), (channel_ways types (type_named scope first) channel).1 ∙ equal (is_drain channel) w two.1)))
           next (inr none) = absurd (cc)
   one_touch before line (forms.Used x names) fits name w is =
@@ -109,7 +107,7 @@ module _ (cs : List Connector) (ms : List Meaning) (serving : AreServing cs ms) 
   touch_there : (before items : List Item) → flat_map (λ (i : Item). arity_in_item cs i.line i.form) items ≡ [] → (name : List ℕ) (w : Bool) → is_touched (flat_map (λ (i : Item). touches_in cs i.form) items) name w ≡ true → HasEnd w (flat name) (each_after channels_at before items)
   touch_there before [] fits name w is = absurd (cc)
   touch_there before (i ∷ is') fits name w is =
-      step (either (is_touched (touches_in cs i.form) name w) (is_touched (flat_map (λ (j : Item). touches_in cs j.form) is') name w) (sym (list_any-append (λ (t : Touch). bytes_eq name t.name && bool_eq t.is_source w) (touches_in cs i.form) (flat_map (λ (j : Item). touches_in cs j.form) is')) ∙ is))
+      step (or_cases (is_touched (touches_in cs i.form) name w) (is_touched (flat_map (λ (j : Item). touches_in cs j.form) is') name w) (sym (list_any-append (λ (t : Touch). bytes_eq name t.name && bool_eq t.is_source w) (touches_in cs i.form) (flat_map (λ (j : Item). touches_in cs j.form) is')) ∙ is))
       (touch_there (before ++ i ∷ []) is' (right_none (arity_in_item cs i.line i.form) _ fits) name w) where
         step : (is_touched (touches_in cs i.form) name w ≡ true) ⊎ (is_touched (flat_map (λ (j : Item). touches_in cs j.form) is') name w ≡ true) → (is_touched (flat_map (λ (j : Item). touches_in cs j.form) is') name w ≡ true → HasEnd w (flat name) (each_after channels_at (before ++ i ∷ []) is')) → HasEnd w (flat name) (each_after channels_at before (i ∷ is'))
         step (inl here) rest = end_left w (flat name) (channels_at before i) _ (one_touch before i.line i.form (left_none (arity_in_item cs i.line i.form) _ fits) name w here)
@@ -142,7 +140,7 @@ module _ (cs : List Connector) (ms : List Meaning) (serving : AreServing cs ms) 
 
   one_node : (ts : List Touch) (line : ℕ) (f : ItemForm) → dangling_in_item ts line f ≡ [] → (x : List ℕ) → In (node_names_in f) x → (is_touched ts x true ≡ true) × (is_touched ts x false ≡ true)
   one_node ts line (forms.Node name term) none x (inl is) =
-      subst (λ y. (is_touched ts y true ≡ true) × (is_touched ts y false ≡ true)) (sym is) (each (is_touched ts name true) (is_touched ts name false) (holds _ _ none))
+      subst (λ y. (is_touched ts y true ≡ true) × (is_touched ts y false ≡ true)) (sym is) (and_parts (is_touched ts name true) (is_touched ts name false) (holds _ _ none))
   one_node ts line (forms.Node name term) none x (inr none') = absurd none'
   one_node ts line (forms.Joined channel first second) none x there = absurd there
   one_node ts line (forms.Used name names) none x there = absurd there

@@ -3,13 +3,12 @@ use Rattle.std.proofs.Common.{arith, ◌≡◌, ◌∙◌, ℕ, List, [], ◌∷
 use Rattle.std.specs.Prelude.{unwrap_or, option_map}
 use Rattle.std.specs.Option.{option_map_or}
 use Rattle.std.specs.List.{AllByRecursion, list_any, flat_map}
-use Rattle.std.proofs.lemmas.Bool.{eqb-true}
+use Rattle.std.proofs.lemmas.Bool.{eqb-true, not-false}
 use Rattle.std.proofs.lemmas.List.{append_assoc, length-map}
 use Rattle.std.proofs.lemmas.Slice.Eq.{bytes_eq-Decides}
 use Rattle.reo_values.specs.declared.kindred.Kindred.{Kindred}
 use Rattle.reo_values.specs.declared.kindred.Kindred.TheVariants as kinds
 use Rattle.reo_values.specs.Valid.{IsValid}
-use Rattle.reo_values.proofs.Truths.{not_false}
 use Rattle.reo_trees.specs.declared.items.Item.{Item}
 use Rattle.reo_trees.specs.declared.items.ItemForm.{ItemForm}
 use Rattle.reo_trees.specs.declared.items.ItemForm.TheVariants as forms
@@ -224,7 +223,7 @@ module _ (cs : List Connector) (ms : List Meaning) (ts : List Typing) (types : L
     passed nodes mine line (n ∷ ns) (q ∷ qs) known fit =
         let one = any_none (λ (r : List ℕ × Parameter). not (is_same (type_named scope r.0) (resolved types r.1.term.shape))) (n, q) (zip ns qs) fit in
         let here = known_type nodes mine line n (left_none (missing (parameter_names ps ++ nodes) line n) _ known) in
-        (here ∙ same_types (type_named scope n) (resolved types q.term.shape) (not_false _ one.0), passed nodes mine line ns qs (right_none (missing (parameter_names ps ++ nodes) line n) _ known) one.1)
+        (here ∙ same_types (type_named scope n) (resolved types q.term.shape) (not-false _ one.0), passed nodes mine line ns qs (right_none (missing (parameter_names ps ++ nodes) line n) _ known) one.1)
 
     one_fits : (before : List Item) (line : ℕ) (f : ItemForm) → ((n : List ℕ) → In (node_names before) n → In (names_of own) n) → IsSpelledForm f → unknown_in_item types connectors (parameter_names ps ++ node_names before) line f ≡ []
         → is_mistyped types cs scope f ≡ false → range_in_item types scope line f ≡ [] → arity_in_item cs line f ≡ [] → HasTypes T (typed_in ts types path before f)

@@ -5,7 +5,7 @@ use Rattle.std.specs.Prelude.{unwrap_or, option_map, option_and_then, FitsSigned
 use Rattle.std.specs.Int.{w64}
 use Rattle.std.specs.Int.Signed.{le_z}
 use Rattle.std.specs.List.{AllByRecursion, flat_map, position_from}
-use Rattle.std.proofs.lemmas.Bool.{leb-false}
+use Rattle.std.proofs.lemmas.Bool.{leb-false, not-false, or_parts}
 use Rattle.std.proofs.lemmas.Int.{ints}
 use Rattle.std.proofs.lemmas.List.{append-nil, append_assoc}
 use Rattle.reo_values.specs.declared.kindred.Kindred as kindred
@@ -13,7 +13,6 @@ use Rattle.reo_values.specs.declared.kindred.Kindred.{Kindred}
 use Rattle.reo_values.specs.declared.kindred.Kindred.TheVariants as kinds
 use Rattle.reo_values.specs.declared.kindred.Kindred.TheBlock.{hidden-the_row-Twins-0}
 use Rattle.reo_values.specs.Valid.{IsValid}
-use Rattle.reo_values.proofs.Truths.{not_false, either_false}
 use Rattle.reo_exprs.specs.declared.expr.Expr.{Expr}
 use Rattle.reo_exprs.specs.declared.expr.Expr.TheVariants as exprs
 use Rattle.reo_exprs.specs.declared.expr.Expr.TheBlock.{hidden-the_row-Expr-0, hidden-the_row-ExprPair-1, hidden-the_row-ExprTriple-2}
@@ -70,10 +69,10 @@ unfolding hidden-the_row-Twins-0 hidden
 valid_shape types valid line shape.Unit spelled once bound = tt
 valid_shape types valid line shape.Bool spelled once bound = tt
 valid_shape types valid line (shape.Int low high) spelled once bound =
-    let within = either_false (not (le_z low high)) _ (where_false _ _ (left_none (out_at types (record { line = line; shape = shape.Int low high })) _ bound)) in
-    (near_64 low spelled.0, near_64 high spelled.1, in_order low high (not_false _ within))
+    let within = (or_parts (not (le_z low high)) _ (where_false _ _ (left_none (out_at types (record { line = line; shape = shape.Int low high })) _ bound))).0 in
+    (near_64 low spelled.0, near_64 high spelled.1, in_order low high (not-false _ within))
 valid_shape types valid line (shape.Sym names) spelled once bound =
-    let within = either_false (nat_lt 1024 (length names)) _ (where_false _ _ (left_none (out_at types (record { line = line; shape = shape.Sym names })) _ bound)) in
+    let within = (or_parts (nat_lt 1024 (length names)) _ (where_false _ _ (left_none (out_at types (record { line = line; shape = shape.Sym names })) _ bound))).0 in
     let few = leb-false (suc 1024) (length names) within in
     let each = names_once line [] names tt (left_none (each_after (λ b name. twice_among b line name) [] names) _ once) in
     record { few = omega arith; words = λ k d below. (spelled k d below).0; distinct = distinct names each }

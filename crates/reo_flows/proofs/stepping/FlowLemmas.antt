@@ -1,5 +1,6 @@
 -- Primitives at the ends of joints, and joints with items.
 use Rattle.std.proofs.Common.{◌≡◌, ◌∙◌, ◌⊎◌, ◌↔◌, inl, inr, ℕ, ◌<◌, Bool, true, false, IsTrue, List, length, get_or, set, sym, refl, arith}
+use Rattle.std.proofs.lemmas.Bool.{cases_eq}
 use Rattle.std.specs.Prelude.{Option, Some, None, is_some}
 use Rattle.std.proofs.lemmas.List.{get_or-set_same, get_or-set_other, length-set}
 use Rattle.reo_values.specs.declared.value.Value.{Value}
@@ -10,7 +11,6 @@ use Rattle.reo_net_base.specs.Colouring.{IsColouring, ItemFits}
 use Rattle.reo_net_base.specs.Marks.{marks_match}
 use Rattle.reo_net_base.specs.Net.{Net, end_of, mark_at}
 use Rattle.reo_net_base.specs.Wired.{IsWired}
-use Rattle.reo_net_circuit.proofs.Cases.{eq_cases}
 use Rattle.reo_flows.specs.stepping.Changes.{is_changed}
 
 abbrev pub no_joint : Joint
@@ -22,7 +22,7 @@ IsBeside j i = (j.giver.primitive ≡ i) ⊎ (j.taker.primitive ≡ i)
 
 -- A mark that is set, or another.
 set_is : (marks : List Bool) (k i : ℕ) → i < length marks → IsTrue (get_or (set marks k true) i false) ↔ ((k ≡ i) ⊎ IsTrue (get_or marks i false))
-set_is marks k i lt = elim (eq_cases k i) [
+set_is marks k i lt = elim (cases_eq k i) [
   | inl e ↦ (λ _. inl e, λ _. rw e (get_or-set_same marks i true false lt))
   | inr ne ↦
       let same = get_or-set_other marks k i true false (λ e. ne (sym e)) in

@@ -1,5 +1,6 @@
 -- Primitives at the joints that flow.
 use Rattle.std.proofs.Common.{◌≡◌, ◌∙◌, ◌↔◌, inl, inr, ℕ, ◌+◌, ◌<◌, Bool, true, false, IsTrue, List, length, get_or, set, ap, sym, subst, arith}
+use Rattle.std.proofs.lemmas.Bool.{cases_eq}
 use Rattle.std.proofs.lemmas.List.{get_or_default}
 use Rattle.reo_net_base.specs.declared.mark.Mark.TheVariants.{F}
 use Rattle.reo_net_base.specs.declared.joint.End.{End}
@@ -8,7 +9,6 @@ use Rattle.reo_net_base.specs.Colouring.{RowsFit}
 use Rattle.reo_net_base.specs.Net.{Net, end_of, mark_at}
 use Rattle.reo_net_base.specs.Wired.{IsWired}
 use Rattle.reo_net_base.proofs.Marks.{giver_flows}
-use Rattle.reo_net_circuit.proofs.Cases.{eq_cases}
 use Rattle.reo_net_laws.proofs.Joined.{joint_of}
 use Rattle.reo_flows.specs.stepping.Changes.{AreThoseThatFlowed, HasFlow, is_changed}
 use Rattle.reo_flows.specs.stepping.Flowing.{AreFlowing}
@@ -37,7 +37,7 @@ beside_more joints flowing n i j old now here is lt before =
             let below = found.before in
             record { place = found.place; before = omega arith; beside = found.beside }
       ],
-      λ found. elim (eq_cases found.place n) [
+      λ found. elim (cases_eq found.place n) [
         | inl e ↦ both.1 (inl (rw (e, here) at found.beside))
         | inr ne ↦
             let below = found.before in

@@ -11,11 +11,10 @@ use Rattle.reo_net_base.specs.Ends.{IsTaker}
 use Rattle.reo_net_base.specs.Net.{Net, behaviour_at, end_of}
 use Rattle.reo_net_base.specs.Step.{is_mouth, mouth_of, taken_for}
 use Rattle.reo_net_base.specs.Wired.{IsWired}
-use Rattle.reo_net_circuit.proofs.Cases.{lt_cases}
 use Rattle.reo_net_circuit.specs.found_ends.Ends.{AreEnds, joint_at}
 use Rattle.reo_net_circuit.proofs.found_ends.EndLemmas.{taker_at, of_taker}
 use Rattle.reo_flows.proofs.stepping.FlowLemmas.{no_joint}
-use Rattle.std.proofs.lemmas.Bool.{false_from_ne_true as not_true}
+use Rattle.std.proofs.lemmas.Bool.{false_from_ne_true as not_true, cases_lt}
 use Rattle.reo_net_circuit.proofs.StepLemmas.{mouth_test}
 
 -- One of the two ends of a primitive with two sides is its mouth.
@@ -94,7 +93,7 @@ mouth_below net table are i i_in end is = are.in_range (end_of i end) (i_in, is.
 module _ (net : Net) (i : ℕ) where
   -- What has one side has no mouth.
   pub no_mouth : (items : List (Option Value)) → length items ≡ length net.joints → ((behaviour_at net.primitives i).sides ≡ 2 → ⊥) → taken_for net items i ≡ None
-  no_mouth items count one = elim (lt_cases (mouth_of net i) (length net.joints)) [
+  no_mouth items count one = elim (cases_lt (mouth_of net i) (length net.joints)) [
     | inl lt ↦ absurd (one (two_of (behaviour_at net.primitives i) (get_or net.joints (mouth_of net i) no_joint) (passes_at_first (is_mouth (behaviour_at net.primitives i) i) net.joints no_joint lt)))
     | inr past ↦ past_end items (mouth_of net i) (omega (arith, count, past))
   ]
@@ -109,7 +108,7 @@ module _ (net : Net) (i : ℕ) where
 
   -- Where there is no mouth nothing is cleared.
   pub none_cleared : (items : List (Option Value)) → length items ≡ length net.joints → ((behaviour_at net.primitives i).sides ≡ 2 → ⊥) → set items (mouth_of net i) None ≡ items
-  none_cleared items count one = elim (lt_cases (mouth_of net i) (length net.joints)) [
+  none_cleared items count one = elim (cases_lt (mouth_of net i) (length net.joints)) [
     | inl lt ↦ absurd (one (two_of (behaviour_at net.primitives i) (get_or net.joints (mouth_of net i) no_joint) (passes_at_first (is_mouth (behaviour_at net.primitives i) i) net.joints no_joint lt)))
     | inr far ↦ set_past items (mouth_of net i) (omega (arith, count, far))
   ]

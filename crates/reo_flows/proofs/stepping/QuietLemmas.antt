@@ -1,5 +1,6 @@
 -- Primitives of which no end flows.
 use Rattle.std.proofs.Common.{◌≡◌, ◌∙◌, inl, inr, ℕ, zero, suc, ◌+◌, ◌<◌, ◌≤◌, cond, true, List, [], ◌∷◌, length, get_or, ap, sym, refl, arith, add-zero}
+use Rattle.std.proofs.lemmas.Bool.{cases_lt}
 use Rattle.std.specs.Prelude.{Option, Some, None, is_some, ◌==◌}
 use Rattle.std.proofs.lemmas.Bool.Decides.{nat_tests}
 use Rattle.std.proofs.lemmas.List.Sums.{passes_at_first}
@@ -11,7 +12,6 @@ use Rattle.reo_net_base.specs.Lawful.{IsQuiet}
 use Rattle.reo_net_base.specs.Net.{Net, behaviour_at, end_of, first_side, mark_at, row_at, side_at}
 use Rattle.reo_net_base.specs.Step.{chosen_for, is_mouth, mouth_of, taken_for}
 use Rattle.reo_net_base.specs.Wired.{IsWired}
-use Rattle.reo_net_circuit.proofs.Cases.{lt_cases}
 use Rattle.reo_flows.proofs.stepping.FlowLemmas.{no_joint, with_item}
 use Rattle.reo_flows.specs.stepping.Changes.{HasFlow}
 
@@ -68,7 +68,7 @@ module _ (net : Net) (rows : List ℕ) (items : List (Option Value)) (wired : Is
   nothing_taken i still =
       let k : ℕ = mouth_of net i in
       let count = is.one_each in
-      elim (lt_cases k (length net.joints)) [
+      elim (cases_lt k (length net.joints)) [
         | inl lt ↦
             let j : Joint = get_or net.joints k no_joint in
             let here = mouth_at (behaviour_at net.primitives i) i j (passes_at_first (is_mouth (behaviour_at net.primitives i) i) net.joints no_joint lt) in

@@ -4,13 +4,12 @@ use Rattle.std.specs.Prelude.{bytes_eq}
 use Rattle.std.specs.List.{flat_map, range_with_len, list_all}
 use Rattle.std.specs.Fmt.{decimal}
 use Rattle.std.proofs.Math.Nat.{eq-or-lt_of_le}
-use Rattle.std.proofs.lemmas.Bool.{eqb-false}
+use Rattle.std.proofs.lemmas.Bool.{eqb-false, and_parts}
 use Rattle.std.proofs.lemmas.Bool.Decides.{nat_tests, Decides-eqb}
 use Rattle.std.proofs.lemmas.List.{length-append, length-map}
 use Rattle.std.proofs.lemmas.List.FromFn.{length-map-range_with_len}
 use Rattle.std.proofs.lemmas.Grind.{flat_map-append}
 use Rattle.reo_values.specs.Names.{is_digit}
-use Rattle.reo_values.proofs.Truths.{and_left}
 use Rattle.reo_values.proofs.Sequences.{bytes_same}
 use Rattle.reo_grammar.specs.Spelling.{is_digits}
 use Rattle.reo_lexer.proofs.Spelled.{digit-parts}
@@ -131,11 +130,11 @@ no-digit_back d h = let (l, u) = digit-parts d h in grind (arith, nat_tests)
 
 digits-other : (ds rest : List ℕ) → is_digits ds ≡ true → bytes_eq (115 ∷ ds) (115 ∷ 116 ∷ rest) ≡ false
 digits-other [] rest h = absurd (cc)
-digits-other (d ∷ ds) rest h = λ i. no-digit d (and_left (is_digit d) (list_all is_digit ds) h) i && bytes_eq ds rest
+digits-other (d ∷ ds) rest h = λ i. no-digit d ((and_parts (is_digit d) (list_all is_digit ds) h).0) i && bytes_eq ds rest
 
 other-digits : (ds rest : List ℕ) → is_digits ds ≡ true → bytes_eq (115 ∷ 116 ∷ rest) (115 ∷ ds) ≡ false
 other-digits [] rest h = absurd (cc)
-other-digits (d ∷ ds) rest h = λ i. no-digit_back d (and_left (is_digit d) (list_all is_digit ds) h) i && bytes_eq rest ds
+other-digits (d ∷ ds) rest h = λ i. no-digit_back d ((and_parts (is_digit d) (list_all is_digit ds) h).0) i && bytes_eq rest ds
 
 abbrev inner : ℕ → ℕ → List ℕ
 inner m l = path_of m ++ l ∷ []

@@ -1,7 +1,6 @@
 -- How many parentheses and braces are open at each token.
 use Rattle.std.proofs.Common.{◌≡◌, ℕ, ◌+◌, ◌-◌, ◌≤◌, Bool, true, false, cond, ◌&&◌, not, inl, inr, List, [], ◌∷◌, ◌++◌, refl, sym, ◌∙◌, ap, subst, arith, append_assoc, append-nil, nat_le, codes}
-use Rattle.std.proofs.lemmas.Bool.{leb-true}
-use Rattle.reo_values.proofs.Truths.{and_left, and_right}
+use Rattle.std.proofs.lemmas.Bool.{leb-true, and_parts}
 use Rattle.reo_grammar.specs.Tokens.{Lexeme, matches, Alike}
 use Rattle.reo_grammar.specs.Tokens.Class.{fixed}
 use Rattle.reo_grammar.specs.Levels.{term_starts, term_ends, count_of, in_term, operators_at, IsAbove, Nowhere}
@@ -83,7 +82,7 @@ counted-more : (h : Height) (a : List Lexeme) (t : Lexeme) → is_low h t ≡ tr
 counted-more h a t low c = record {
   parentheses = rw (count_of-more (fixed (codes "(")) a t, count_of-more (fixed (codes ")")) a t) (moved-counts (matches (fixed (codes "(")) t) (matches (fixed (codes ")")) t) _ _ h.parentheses c.parentheses);
   braces = rw (count_of-more (fixed (codes "{")) a t, count_of-more (fixed (codes "}")) a t) (moved-counts (matches (fixed (codes "{")) t) (matches (fixed (codes "}")) t) _ _ h.braces c.braces);
-  calm = in_term-more a t ∙ calm-more (matches term_starts t) (matches term_ends t) (in_term a) (and_left (not (matches term_starts t)) _ low) c.calm;
+  calm = in_term-more a t ∙ calm-more (matches term_starts t) (matches term_ends t) (in_term a) ((and_parts (not (matches term_starts t)) _ low).0) c.calm;
 }
 
 calm-none : (r : Bool) (n : ℕ) → r ≡ false → cond r n 0 ≡ 0
@@ -99,8 +98,8 @@ record Shallow (h : Height) : Type 0 where
 
 shallow : (h : Height) (t : Lexeme) → is_low h t ≡ true → Shallow (over h t)
 shallow h t low =
-    let both : (nat_le (over h t).parentheses 64 && nat_le (over h t).braces 16) ≡ true = and_right (not (matches term_starts t)) _ low in
-    record { parentheses = leb-true (over h t).parentheses 64 (and_left (nat_le (over h t).parentheses 64) _ both); braces = leb-true (over h t).braces 16 (and_right (nat_le (over h t).parentheses 64) _ both) }
+    let both : (nat_le (over h t).parentheses 64 && nat_le (over h t).braces 16) ≡ true = (and_parts (not (matches term_starts t)) _ low).1 in
+    record { parentheses = leb-true (over h t).parentheses 64 ((and_parts (nat_le (over h t).parentheses 64) _ both).0); braces = leb-true (over h t).braces 16 ((and_parts (nat_le (over h t).parentheses 64) _ both).1) }
 
 not-deep : (h : Height) (a : List Lexeme) → Shallow h → Counted h a → IsDeep a → ⊥
 not-deep h a s c (inl above) =

@@ -1,8 +1,8 @@
 -- How texts that are put together are read.
 use Rattle.std.proofs.Common.{◌≡◌, ℕ, Bool, true, ◌&&◌, not, List, [], ◌∷◌, ◌++◌, refl, sym, ◌∙◌, ap, subst, append-nil, nat_le}
+use Rattle.std.proofs.lemmas.Bool.{and_parts, and_from}
 use Rattle.std.specs.List.{list_all}
 use Rattle.reo_values.specs.Names.{is_name}
-use Rattle.reo_values.proofs.Truths.{and_left, and_right}
 use Rattle.reo_grammar.specs.declared.kind.TokenKind.TheVariants as kinds
 use Rattle.reo_grammar.specs.Bytes.{one_of}
 use Rattle.reo_grammar.specs.Spelling.{reserved}
@@ -12,7 +12,6 @@ use Rattle.reo_grammar.specs.Conditions.{fixed_kind, fixed_token}
 use Rattle.reo_grammar.specs.Grammar.{Grammar, Says, line_of}
 use Rattle.reo_grammar.specs.Grammar.Grammar.{nothing, token, both, made, either, chain, lined, rule}
 use Rattle.reo_grammar.proofs.Lines.{matches-alike, parts}
-use Rattle.reo_grammar.proofs.Sound.{and-both}
 use Rattle.reo_lexer.specs.Gaps.{is_space}
 use Rattle.reo_lexer.specs.Gaps.IsGap.{no_gap}
 use Rattle.reo_lexer.specs.Lexing.{IsTokens, lexemes_of}
@@ -123,16 +122,16 @@ module _ {Ref : Type 0} {tree : Ref → Type 0} {rules : (r : Ref) → Grammar R
   pub reads-word : (b gap r : List ℕ) (h : Height) → is_fit h b gap ≡ true → is_cut (fixed_kind b) b (gap ++ r) ≡ true
       → Reads rules (made (λ t. tt {0}) (token (fixed b))) (b ++ gap) r (λ x. Unit {0}) h (over h (fixed_token b))
   reads-word b gap r h f i =
-      let p : is_real (fixed_token b) ≡ true = and_left _ _ f in
-      let f1 = and_right (is_real (fixed_token b)) _ f in
-      let q : matches (fixed b) (fixed_token b) ≡ true = and_left _ _ f1 in
-      let f2 = and_right (matches (fixed b) (fixed_token b)) _ f1 in
-      reads-made (λ x. Unit {0}) (reads-token (fixed b) (fixed_token b) gap r h q p (and_left _ _ f2) i (and_right (list_all is_space gap) _ f2)) (λ x e. tt {0})
+      let p : is_real (fixed_token b) ≡ true = (and_parts _ _ f).0 in
+      let f1 = (and_parts (is_real (fixed_token b)) _ f).1 in
+      let q : matches (fixed b) (fixed_token b) ≡ true = (and_parts _ _ f1).0 in
+      let f2 = (and_parts (matches (fixed b) (fixed_token b)) _ f1).1 in
+      reads-made (λ x. Unit {0}) (reads-token (fixed b) (fixed_token b) gap r h q p ((and_parts _ _ f2).0) i ((and_parts (list_all is_space gap) _ f2).1)) (λ x e. tt {0})
 
   pub reads-name : (b gap r : List ℕ) (h : Height) → IsNamed b → list_all is_space gap ≡ true → is_cut kinds.Name b (gap ++ r) ≡ true → (nat_le h.parentheses 64 && nat_le h.braces 16) ≡ true
       → Reads rules (made (λ t. t.bytes) (token name)) (b ++ gap) r (λ n. b ≡ n) h h
   reads-name b gap r h n s i low =
-      reads-made (λ x. b ≡ x) (reads-token name (name_token b) gap r h refl (and-both (is_name b && not (one_of b reserved)) true (and-both (is_name b) (not (one_of b reserved)) n.spelled n.free) refl) s i low) (λ x e. e)
+      reads-made (λ x. b ≡ x) (reads-token name (name_token b) gap r h refl (and_from (is_name b && not (one_of b reserved)) true (and_from (is_name b) (not (one_of b reserved)) n.spelled n.free) refl) s i low) (λ x e. e)
 
   -- The digits of a number.
   pub reads-number : (n low high : ℕ) (b gap r : List ℕ) (h : Height) → matches (number low high) (record { kind = kinds.Number; bytes = b; line = 0 }) ≡ true → is_real (record { kind = kinds.Number; bytes = b; line = 0 }) ≡ true

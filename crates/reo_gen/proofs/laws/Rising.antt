@@ -1,10 +1,10 @@
 -- In a made circuit items only rise, but in its buffers.
 use Rattle.std.proofs.Common.{arith, ◌≡◌, ℕ, ◌+◌, ◌*◌, ◌<◌, ◌≤◌, ◌^◌, ◌==◌, zero, suc, List, [], ◌∷◌, ◌++◌, map, true, false, cond, ◌||◌, refl, sym, ap, subst, codes}
+use Rattle.std.proofs.lemmas.Bool.{and_parts}
 use Rattle.std.specs.List.{AllByRecursion, flat_map, range_with_len, list_all}
 use Rattle.std.specs.Fmt.{decimal}
 use Rattle.std.proofs.lemmas.Bool.Decides.{nat_tests}
 use Rattle.reo_values.specs.Names.{is_digit}
-use Rattle.reo_values.proofs.Truths.{and_left, and_right}
 use Rattle.reo_grammar.specs.Spelling.{is_digits}
 use Rattle.reo_lexer.proofs.Spelled.{digit-parts}
 use Rattle.reo_syntax.proofs.Decimals.{decimal-value}
@@ -46,8 +46,8 @@ inner-rank path b = ap byte_rank (last-one path b)
 
 last-digit : (b : ℕ) (ds : List ℕ) → is_digits ds ≡ true → is_digit (last_byte (b ∷ ds)) ≡ true
 last-digit b [] h = absurd (cc)
-last-digit b (d ∷ []) h = and_left (is_digit d) true h
-last-digit b (d ∷ e ∷ ds) h = last-digit d (e ∷ ds) (and_right (is_digit d) (list_all is_digit (e ∷ ds)) h)
+last-digit b (d ∷ []) h = (and_parts (is_digit d) true h).0
+last-digit b (d ∷ e ∷ ds) h = last-digit d (e ∷ ds) ((and_parts (is_digit d) (list_all is_digit (e ∷ ds)) h).1)
 
 digit-low : (d : ℕ) → is_digit d ≡ true → byte_rank d ≡ 0
 digit-low d h =

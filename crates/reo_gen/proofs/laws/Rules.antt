@@ -1,5 +1,6 @@
 -- A made program breaks no rule on its text.
 use Rattle.std.proofs.Common.{◌≡◌, ℕ, ◌+◌, ◌-◌, ◌≤◌, ◌<◌, ◌==◌, zero, suc, Bool, true, false, ◌||◌, ◌&&◌, not, cond, List, [], ◌∷◌, ◌++◌, map, refl, sym, ◌∙◌, ap, arith, append-nil, codes}
+use Rattle.std.proofs.Math.Bool.{and-false}
 use Rattle.std.specs.Prelude.{bytes_eq, if◌then◌else◌, unwrap_or, Some, pos}
 use Rattle.std.specs.Option.{option_map}
 use Rattle.std.specs.List.{range_with_len, flat_map, list_any, find}
@@ -11,7 +12,6 @@ use Rattle.std.proofs.lemmas.List.FromFn.{map-range_with_len_more}
 use Rattle.std.proofs.lemmas.Grind.{flat_map-append}
 use Rattle.std.proofs.lemmas.Bool.Decides.{Decides-eqb}
 use Rattle.reo_values.specs.declared.kindred.Kindred.TheVariants as kinds
-use Rattle.reo_values.proofs.Truths.{and_false}
 use Rattle.reo_trees.specs.declared.items.Item.{Item}
 use Rattle.reo_trees.specs.declared.programs.Parameter.{Parameter}
 use Rattle.reo_rules.specs.declared.fault.FlatFault.{FlatFault}
@@ -207,16 +207,16 @@ right-way n at x w h k = or-neither _ _ h (none-any (goes_against (touch x w)) o
 
 source-way : (n : ℕ) (at : Places) (j : ℕ) → list_any (goes_against (touch (source_of j) true)) (parameters_in n at) ≡ false
 source-way n at j =
-    right-way n at (source_of j) true (and_false (bytes_eq (source_of j) (codes "i")))
+    right-way n at (source_of j) true (and-false (bytes_eq (source_of j) (codes "i")))
     (λ k l. and-true (bytes_eq (source_of j) (output k)) (source-one (λ x. bytes_eq x (output k) ≡ false) j refl (λ e. refl)))
 
 sink-way : (n : ℕ) (at : Places) (j : ℕ) → list_any (goes_against (touch (sink_of n j) false)) (parameters_in n at) ≡ false
 sink-way n at j =
     right-way n at (sink_of n j) false (and-true (bytes_eq (sink_of n j) (codes "i")) (sink-one (λ x. bytes_eq x (codes "i") ≡ false) n j refl (λ e. refl)))
-    (λ k l. and_false (bytes_eq (sink_of n j) (output k)))
+    (λ k l. and-false (bytes_eq (sink_of n j) (output k)))
 
 output-way : (n : ℕ) (at : Places) (j : ℕ) → list_any (goes_against (touch (output j) false)) (parameters_in n at) ≡ false
-output-way n at j = right-way n at (output j) false refl (λ k l. and_false (bytes_eq (output j) (output k)))
+output-way n at j = right-way n at (output j) false refl (λ k l. and-false (bytes_eq (output j) (output k)))
 
 direction-none : (n : ℕ) (at : Places) → direction (declarations_of n at) ≡ []
 direction-none n at =

@@ -1,12 +1,12 @@
 -- Made work is of small size.
 use Rattle.std.proofs.Common.{arith, lit≤, ◌≡◌, ◌∙◌, ℕ, ◌+◌, ◌-◌, ◌*◌, ◌<◌, ◌≤◌, ◌^◌, ◌==◌, max, zero, suc, List, [], ◌∷◌, ◌++◌, length, map, Bool, true, false, ◌||◌, refl, sym, subst, nat_lt, codes}
+use Rattle.std.proofs.lemmas.Bool.{le-ltb}
 use Rattle.std.specs.Prelude.{if◌then◌else◌}
 use Rattle.std.specs.List.{flat_map, range_with_len, sum_by, fold}
 use Rattle.std.specs.Fmt.{decimal}
 use Rattle.std.proofs.lemmas.Fmt.{length-decimal-le}
 use Rattle.std.proofs.lemmas.List.{length-append}
 use Rattle.std.proofs.lemmas.List.Sums.{fold-append, sum_by-append, sum_by-cons}
-use Rattle.reo_values.proofs.Naturals.{lt_false}
 use Rattle.reo_trees.specs.declared.items.Item.{Item}
 use Rattle.reo_rules.specs.declared.fault.FlatFault.TheVariants as faults
 use Rattle.reo_rules.specs.Lists.{where_true}
@@ -60,10 +60,10 @@ few-enough : (n : ℕ) (at : Places) → 1 ≤ n → n ≤ 256 → too_many (dec
 few-enough n at some few =
     let count = primitives-count n at some few in
     let uses = few-uses n at in
-    let p : nat_lt 4096 (length (primitives_of (declarations_of n at))) ≡ false = lt_false 4096 _ (omega arith) in
-    let u : nat_lt 65536 (sum_by (uses_by at) (links_in n at ++ stages_in n at)) ≡ false = lt_false 65536 _ (omega arith) in
+    let p : nat_lt 4096 (length (primitives_of (declarations_of n at))) ≡ false = le-ltb 4096 _ (omega arith) in
+    let u : nat_lt 65536 (sum_by (uses_by at) (links_in n at ++ stages_in n at)) ≡ false = le-ltb 65536 _ (omega arith) in
     let deep = not-deep n at in
-    let d : nat_lt 64 (fold (depth_by at) 0 (links_in n at ++ stages_in n at)) ≡ false = lt_false 64 _ (omega arith) in
+    let d : nat_lt 64 (fold (depth_by at) 0 (links_in n at ++ stages_in n at)) ≡ false = le-ltb 64 _ (omega arith) in
     λ i. where_true ((p i || u i) || d i) faults.TooMany
 
 -- The program is accepted.

@@ -1,5 +1,6 @@
 -- The ports of open circuits are gates.
-use Rattle.std.proofs.Common.{◌≡◌, ◌≢◌, inl, inr, ℕ, zero, suc, ◌+◌, ◌<◌, ◌≤◌, List, [], ◌∷◌, Bool, true, false, cond, length, map, get_or, refl, ap, sym, ◌∙◌, subst, arith}
+use Rattle.std.proofs.Common.{◌≡◌, inl, inr, ℕ, zero, suc, ◌+◌, ◌<◌, List, [], ◌∷◌, Bool, true, false, cond, length, map, get_or, refl, ap, sym, ◌∙◌, subst, arith}
+use Rattle.std.proofs.lemmas.Bool.{cases_lt}
 use Rattle.std.specs.Prelude.{filter}
 use Rattle.std.specs.List.{range_with_len}
 use Rattle.std.specs.List.Sorted.{IsStrictlyIncreasing}
@@ -7,14 +8,12 @@ use Rattle.std.proofs.lemmas.List.{length-map, get_or-map}
 use Rattle.std.proofs.lemmas.List.FromFn.{get_or-range_with_len, length-range_with_len}
 use Rattle.std.proofs.lemmas.List.Kept.{IsStrictlyIncreasing-filter}
 use Rattle.reo_net_base.specs.Behaviour.{Behaviour, nothing}
-use Rattle.reo_net_base.specs.Net.{Net, Wiring, behaviour_at, end_of, side_at}
-use Rattle.reo_net_base.specs.Wired.{ArePorts, IsPort}
-use Rattle.reo_net_circuit.proofs.Cases.{lt_cases}
+use Rattle.reo_net_base.specs.Net.{Wiring, behaviour_at, end_of, side_at}
+use Rattle.reo_net_base.specs.Wired.{ArePorts}
 use Rattle.reo_kinds.specs.declared.kind.Kind.{Kind}
 use Rattle.reo_kinds.specs.declared.kind.Kind.TheVariants.{Writer, Taker, Sync, Merger, Replicator}
 use Rattle.reo_kinds.specs.Kinds.{behaviour_of}
 use Rattle.reo_open.specs.declared.gate.GateRows.TheVariants.{All}
-use Rattle.reo_open.specs.declared.opens.Open.{Open}
 use Rattle.reo_open.specs.Opened.{opened, open_wiring, open_net}
 use Rattle.reo_listing.specs.base.Tables.{ports_in}
 use Rattle.reo_listing.specs.laws.Gated.{AreHeld, IsGate, gate_of}
@@ -38,7 +37,7 @@ increasing : (xs : List ℕ) → IsStrictlyIncreasing xs → (k n : ℕ) → k <
 increasing xs is k zero lt n_in = absurd (omega arith)
 increasing xs is k (suc n) lt n_in =
     let step : get_or xs n 0 < get_or xs (suc n) 0 = subst (λ (m : ℕ). get_or xs n 0 < get_or xs m 0) (omega arith) (is n (omega arith)) in
-    elim (lt_cases k n) [
+    elim (cases_lt k n) [
       | inl less ↦ let before = increasing xs is k n less (omega arith) in omega (arith, before, step)
       | inr le ↦ let same : k ≡ n = omega arith in subst (λ (m : ℕ). get_or xs m 0 < get_or xs (suc n) 0) (sym same) step
     ]

@@ -1,13 +1,13 @@
 -- A circuit in which a gate says one thing has fewer rows.
-use Rattle.std.proofs.Common.{◌≡◌, ◌≢◌, inl, inr, ℕ, zero, suc, ◌+◌, ◌<◌, Bool, List, true, length, refl, sym, subst, arith}
+use Rattle.std.proofs.Common.{◌≡◌, inl, inr, ℕ, zero, suc, ◌<◌, Bool, List, true, refl, sym, subst, arith}
+use Rattle.std.proofs.lemmas.Bool.{cases_eq}
 use Rattle.reo_net_base.specs.declared.mark.Mark.{Mark}
 use Rattle.reo_net_base.specs.declared.mark.Mark.TheVariants.{F, G, R, J}
 use Rattle.reo_net_base.specs.Behaviour.{Behaviour}
-use Rattle.reo_net_base.specs.Net.{Net, Wiring, net_of, behaviour_at, end_of, first_side, side_at}
+use Rattle.reo_net_base.specs.Net.{Net, Wiring, net_of, behaviour_at, end_of, side_at}
 use Rattle.reo_net_base.specs.Rows.{row_count, mark_in}
 use Rattle.reo_net_base.specs.Wired.{IsWired, IsOrder}
-use Rattle.reo_net_circuit.proofs.Cases.{eq_cases}
-use Rattle.reo_net_circuit.proofs.ReshapeLemmas.{order_same}
+use Rattle.reo_listing.proofs.ReshapeLemmas.{order_same}
 use Rattle.reo_net_laws.specs.Parts.{IsClosed}
 use Rattle.reo_open.specs.declared.gate.GateRows.TheVariants.{All}
 use Rattle.reo_open.specs.declared.opens.Open.{Open}
@@ -17,7 +17,7 @@ use Rattle.reo_weights.specs.Fewer.{StandsFor, HasFewerRows}
 use Rattle.reo_weights.specs.Over.{IsWithin}
 use Rattle.reo_weights.proofs.FewerWeights.{fewer_within}
 use Rattle.reo_listing.specs.laws.Gated.{allowed_for, gate_of, IsGate, put_at}
-use Rattle.reo_listing.proofs.laws.Gates.{IsPlain, gate_is, gate_end, changed_here, changed_other, shapes}
+use Rattle.reo_listing.proofs.laws.Gates.{IsPlain, gate_is, changed_here, changed_other, shapes}
 
 -- A row of another table of a gate says the same.
 record Says (m : Mark) (row : ℕ) : Type 0 where
@@ -85,7 +85,7 @@ module _ (w : Wiring Open) (wired : IsWired (net_of open_behaviour w)) (inside :
         joints = refl;
         count = same.count;
         shape = same.same;
-        sides = λ i side row lt side_in h row_in. elim (eq_cases i port) [
+        sides = λ i side row lt side_in h row_in. elim (cases_eq i port) [
           | inl is ↦
               let at : row < (behaviour_at held.primitives port).rows side = subst (λ (k : ℕ). row < (behaviour_at held.primitives k).rows side) is row_in in
               let below : row < row_count (gate_rows (allowed_for m)) = subst (λ (b : Behaviour). row < b.rows side) held_gate at in

@@ -1,16 +1,16 @@
 -- What ports meet whose first gates say what a front says.
-use Rattle.std.proofs.Common.{◌≡◌, ◌≢◌, inl, inr, ℕ, zero, suc, ◌+◌, ◌<◌, ◌≤◌, List, [], ◌∷◌, ◌++◌, Bool, Option, true, length, map, get_or, refl, ap, sym, ◌∙◌, subst, arith}
+use Rattle.std.proofs.Common.{◌≡◌, ◌≢◌, inl, inr, ℕ, zero, suc, ◌+◌, ◌<◌, ◌≤◌, List, [], ◌∷◌, ◌++◌, Bool, Option, length, get_or, refl, ap, sym, ◌∙◌, subst, arith}
+use Rattle.std.proofs.lemmas.Bool.{cases_lt, cases_eq}
 use Rattle.std.specs.Prelude.{Contains}
 use Rattle.std.proofs.lemmas.List.{length-append, length-map, get_or-map}
 use Rattle.std.proofs.lemmas.List.Elements.{Contains-append_left, Contains-append_right, Contains-append_cases}
 use Rattle.reo_values.specs.declared.value.Value.{Value}
 use Rattle.reo_net_base.specs.declared.mark.Mark.{Mark}
 use Rattle.reo_net_base.specs.declared.mark.Mark.TheVariants.{F, G, R, J}
-use Rattle.reo_net_base.specs.Net.{Net, Wiring, net_of, end_of, side_at, mark_at}
+use Rattle.reo_net_base.specs.Net.{Net, Wiring, net_of, end_of, mark_at}
 use Rattle.reo_net_base.specs.Step.{change_at}
 use Rattle.reo_net_base.specs.Wired.{IsWired, IsEnd}
-use Rattle.reo_net_circuit.proofs.Cases.{lt_cases, eq_cases}
-use Rattle.reo_net_circuit.proofs.ReshapeLemmas.{side_same}
+use Rattle.reo_listing.proofs.ReshapeLemmas.{side_same}
 use Rattle.reo_net_circuit.proofs.PortLemmas.{change_length}
 use Rattle.reo_net_laws.specs.Jams.{IsThreeColouring}
 use Rattle.reo_net_laws.specs.Parts.{IsClosed}
@@ -160,13 +160,13 @@ module _ (w : Wiring Open) (wired : IsWired (net_of open_behaviour w)) (inside :
       held = net_of open_behaviour (put_at w next_port (gate_of takes (allowed_for m)))
 
       apart_from : (k : ℕ) → k < length ports → k ≢ length front → get_or ports k 0 ≢ next_port
-      apart_from k lt ne same = elim (lt_cases k (length front)) [
+      apart_from k lt ne same = elim (cases_lt k (length front)) [
         | inl less ↦ are.apart k (length front) less short same
-        | inr le ↦ elim (lt_cases (length front) k) [ inl less ↦ are.apart (length front) k less lt (sym same) | inr ge ↦ ne (omega arith) ]
+        | inr le ↦ elim (cases_lt (length front) k) [ inl less ↦ are.apart (length front) k less lt (sym same) | inr ge ↦ ne (omega arith) ]
       ]
 
       held_gates : (k : ℕ) → k < length ports → (t : Bool) × IsGate (put_at w next_port (gate_of takes (allowed_for m))) (get_or ports k 0) t (allowed_at (front ++ m ∷ []) k)
-      held_gates k lt = elim (eq_cases k (length front)) [
+      held_gates k lt = elim (cases_eq k (length front)) [
         | inl is ↦ (
           takes,
           subst (λ (n : ℕ). IsGate (put_at w next_port (gate_of takes (allowed_for m))) (get_or ports n 0) takes (allowed_at (front ++ m ∷ []) n)) (sym is)
@@ -262,7 +262,7 @@ module _ (w : Wiring Open) (wired : IsWired (net_of open_behaviour w)) (inside :
           | inl x ↦ omega (arith, up.below marks x)
           | inr y ↦ let says = ap mark_number (says_there closed takes gate m plain held_wired marks (table.are.met marks y)) in omega (arith, says)
         ];
-        all = λ marks it lt. elim (lt_cases (mark_number (mark_of marks (length front))) (mark_number m)) [
+        all = λ marks it lt. elim (cases_lt (mark_number (mark_of marks (length front))) (mark_number m)) [
           | inl less ↦ Contains-append_left rows more marks (up.all marks it less)
           | inr ge ↦
               let same : mark_number (mark_of marks (length front)) ≡ mark_number m = omega arith in

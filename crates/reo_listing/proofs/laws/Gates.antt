@@ -1,10 +1,10 @@
 -- What the ports of a set meet where a gate has fewer rows.
 use Rattle.std.proofs.Common.{◌≡◌, ◌≢◌, inl, inr, ℕ, zero, suc, ◌+◌, ◌<◌, List, [], ◌∷◌, Bool, Option, true, length, map, get_or, refl, ap, sym, ◌∙◌, subst, arith}
+use Rattle.std.proofs.lemmas.Bool.{eqb-false, cases_lt}
 use Rattle.std.specs.Prelude.{Contains}
 use Rattle.std.proofs.Math.ListN.{set}
 use Rattle.std.proofs.lemmas.List.{length-map, get_or-map, length-set, get_or-set_same, get_or-set_other}
 use Rattle.reo_values.specs.declared.value.Value.{Value}
-use Rattle.reo_values.proofs.Naturals.{eq_other}
 use Rattle.reo_net_base.specs.declared.mark.Mark.{Mark}
 use Rattle.reo_net_base.specs.declared.mark.Mark.TheVariants.{F, G, R, J}
 use Rattle.reo_net_base.specs.declared.joint.End.{End}
@@ -15,8 +15,7 @@ use Rattle.reo_net_base.specs.Rows.{row_count, mark_in}
 use Rattle.reo_net_base.specs.Shapes.{SameShapes}
 use Rattle.reo_net_base.specs.Step.{change_at}
 use Rattle.reo_net_base.specs.Wired.{IsWired, IsEnd}
-use Rattle.reo_net_circuit.proofs.Cases.{lt_cases}
-use Rattle.reo_net_circuit.proofs.ReshapeLemmas.{side_same}
+use Rattle.reo_listing.proofs.ReshapeLemmas.{side_same}
 use Rattle.reo_net_circuit.proofs.PortLemmas.{replaced, change_length}
 use Rattle.reo_net_laws.specs.Jams.{IsThreeColouring}
 use Rattle.reo_net_laws.specs.Parts.{IsClosed}
@@ -61,7 +60,7 @@ gate_end w port takes allowed gate = (
 )
 
 least : (row n m : ℕ) → row < n → row + 1 ≢ n → n ≡ m + 1 → row < m
-least row n m lt ne e = elim (lt_cases row m) [ inl h ↦ h | inr h ↦ absurd (ne (omega arith)) ]
+least row n m lt ne e = elim (cases_lt row m) [ inl h ↦ h | inr h ↦ absurd (ne (omega arith)) ]
 
 -- The row of a gate of a set that is not jammed.
 module _ (w : Wiring Open) (wired : IsWired (net_of open_behaviour w)) (inside : ℕ → Bool) (port : ℕ) (takes : Bool) (allowed : GateRows) (gate : IsGate w port takes allowed)
@@ -83,7 +82,7 @@ module _ (w : Wiring Open) (wired : IsWired (net_of open_behaviour w)) (inside :
   pub plain_row : get_or rows side 0 < length (gate_rows allowed)
   plain_row =
       let below = is.assignment.in_tables side no_side in_sides here in
-      let no_jam = eq_other _ _ (is.no_jam side in_sides here) in
+      let no_jam = eqb-false _ _ (is.no_jam side in_sides here) in
       least (get_or rows side 0) (nets.row_count (get_or (all_sides net.primitives) side no_side)) (length (gate_rows allowed)) below no_jam (count no_side)
 
   pub says : mark_at net rows (end_of port 0) ≡ mark_in (gate_rows allowed) (get_or rows side 0) 0

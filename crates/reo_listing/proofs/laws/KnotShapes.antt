@@ -8,7 +8,7 @@ use Rattle.reo_net_base.specs.Net.{Net, all_sides, side_at}
 use Rattle.reo_net_base.specs.Shapes.{SameShapes}
 use Rattle.reo_net_base.specs.Sides.{side_count}
 use Rattle.reo_net_base.specs.Wired.{IsWired}
-use Rattle.reo_net_circuit.proofs.ReshapeLemmas.{side_same}
+use Rattle.reo_listing.proofs.ReshapeLemmas.{side_same}
 use Rattle.reo_net_laws.specs.Parts.{IsClosedBelow, IsLinked, SameKnot, IsKnot}
 use Rattle.reo_net_laws.proofs.Shapes.{count_same}
 use Rattle.reo_listing.specs.laws.Shapes.{KnotsStayWithShape}

@@ -1,14 +1,11 @@
 -- Assignments of circuits that differ at one gate.
-use Rattle.std.proofs.Common.{◌≡◌, ◌≢◌, inl, inr, ℕ, suc, ◌+◌, ◌<◌, ◌==◌, List, Bool, Option, Some, None, true, false, length, get_or, refl, ap, sym, ◌∙◌, subst, arith}
+use Rattle.std.proofs.Common.{◌≡◌, ◌≢◌, inl, inr, ℕ, ◌+◌, ◌<◌, ◌==◌, List, Bool, Option, None, true, false, length, get_or, ap, sym, ◌∙◌, arith}
+use Rattle.std.proofs.lemmas.Bool.{cases_lt, cases_eq}
 use Rattle.std.specs.Option.{option_and_then}
 use Rattle.reo_values.specs.declared.value.Value.{Value}
-use Rattle.reo_values.specs.declared.value.Value.TheVariants.{Unit}
-use Rattle.reo_net_base.specs.declared.mark.Mark.{Mark}
-use Rattle.reo_net_base.specs.declared.mark.Mark.TheVariants.{F}
 use Rattle.reo_net_base.specs.declared.joint.End.{End}
 use Rattle.reo_net_base.specs.declared.joint.Joint.{Joint}
 use Rattle.reo_net_base.specs.Behaviour.{Behaviour}
-use Rattle.reo_net_base.specs.Lawful.{SameShape}
 use Rattle.reo_net_base.specs.Net.{Net, Side, all_sides, behaviour_at, end_of, first_side, side_at, row_at, mark_at, no_side}
 use Rattle.reo_net_base.specs.Net as nets
 use Rattle.reo_net_base.specs.Colouring.{taken_at, given_at, lets_in}
@@ -16,9 +13,8 @@ use Rattle.reo_net_base.specs.Rows.{row_count, mark_in}
 use Rattle.reo_net_base.specs.Shapes.{SameShapes}
 use Rattle.reo_net_base.specs.Wired.{IsWired, IsEnd}
 use Rattle.std.proofs.lemmas.Bool.Decides.{nat_tests}
-use Rattle.reo_net_circuit.proofs.Cases.{lt_cases, eq_cases}
 use Rattle.reo_net_circuit.proofs.NetLemmas.{first_before}
-use Rattle.reo_net_circuit.proofs.ReshapeLemmas.{first_same, side_same}
+use Rattle.reo_listing.proofs.ReshapeLemmas.{first_same, side_same}
 use Rattle.reo_net_laws.specs.Jams.{IsThreeColouring, jams}
 use Rattle.reo_net_laws.specs.Parts.{IsClosed, IsAssignment}
 use Rattle.reo_net_laws.proofs.Assignments.{fits_same}
@@ -30,9 +26,9 @@ use Rattle.reo_open.specs.Gates.{gate_rows, gate_behaviour}
 -- No side of another primitive has the number of the first side of this one.
 pub sides_apart : (bs : List Behaviour) (i n p : ℕ) → i < length bs → n < (behaviour_at bs i).sides → p < length bs → 0 < (behaviour_at bs p).sides
     → i ≢ p → first_side bs i + n ≢ first_side bs p
-sides_apart bs i n p i_in n_in p_in some ne same = elim (lt_cases i p) [
+sides_apart bs i n p i_in n_in p_in some ne same = elim (cases_lt i p) [
   | inl less ↦ absurd (omega (arith, first_before bs i p n less p_in n_in, same))
-  | inr le ↦ elim (lt_cases p i) [
+  | inr le ↦ elim (cases_lt p i) [
     | inl less ↦ absurd (omega (arith, first_before bs p i 0 less i_in some, same))
     | inr ge ↦ ne (omega arith)
   ]
@@ -102,11 +98,11 @@ module _ (bs ds : List Behaviour) (js : List Joint) (wired : IsWired (record { p
         ∙ ap (λ (k : ℕ). (behaviour_at bs e.primitive).mark ((behaviour_at bs e.primitive).side_of e.end) k e.end) (row_there e e_in ne)
 
     pub mark_same : (e : End) → IsEnd bs e → mark_at other rows e ≡ mark_at net r e
-    mark_same e e_in = elim (eq_cases e.primitive p) [ inl is ↦ mark_here e e_in is | inr ne ↦ mark_there e e_in ne ]
+    mark_same e e_in = elim (cases_eq e.primitive p) [ inl is ↦ mark_here e e_in is | inr ne ↦ mark_there e e_in ne ]
 
     lets_same : (e : End) → IsEnd bs e → (item : Value) → lets_in other rows e item ≡ lets_in net r e item
     unfolding lets_in
-    lets_same e e_in item = elim (eq_cases e.primitive p) [
+    lets_same e e_in item = elim (cases_eq e.primitive p) [
       | inl is ↦
           ap (λ (b : Behaviour). b.passes (b.side_of e.end) (row_at other rows e) e.end item) (gate_now e is)
           ∙ sym (ap (λ (b : Behaviour). b.passes (b.side_of e.end) (row_at net r e) e.end item) (gate_at e is))
@@ -119,7 +115,7 @@ module _ (bs ds : List Behaviour) (js : List Joint) (wired : IsWired (record { p
     unfolding given_at
     given_same items e e_in =
         let taken : Option ℕ → Option Value = option_and_then (λ from. taken_at js items (end_of e.primitive from)) in
-        elim (eq_cases e.primitive p) [
+        elim (cases_eq e.primitive p) [
           | inl is ↦
               ap (λ (b : Behaviour). b.given (b.side_of e.end) (row_at other rows e) e.end (taken (b.from (b.side_of e.end) (row_at other rows e) e.end))) (gate_now e is)
               ∙ sym (ap (λ (b : Behaviour). b.given (b.side_of e.end) (row_at net r e) e.end (taken (b.from (b.side_of e.end) (row_at net r e) e.end))) (gate_at e is))
@@ -161,7 +157,7 @@ module _ (bs ds : List Behaviour) (js : List Joint) (wired : IsWired (record { p
       in_tables is k d lt k_in =
           let before : k < length (all_sides bs) = omega (arith, sides) in
           let o = owner_of bs k before in
-          elim (eq_cases o.primitive p) [
+          elim (cases_eq o.primitive p) [
             | inl here ↦
                 let place : get_or rows k 0 ≡ get_or rows gate_side 0 = ap (λ (n : ℕ). get_or rows n 0) (gate_owner k o here) in
                 omega (arith, count_here k o d here, place, plain)
@@ -191,7 +187,7 @@ module _ (bs ds : List Behaviour) (js : List Joint) (wired : IsWired (record { p
       no_jam is k lt k_in =
           let before : k < length (all_sides bs) = omega (arith, sides) in
           let o = owner_of bs k before in
-          elim (eq_cases o.primitive p) [
+          elim (cases_eq o.primitive p) [
             | inl here ↦
                 let place : get_or rows k 0 ≡ get_or rows gate_side 0 = ap (λ (n : ℕ). get_or rows n 0) (gate_owner k o here) in
                 eq_false _ _ (omega (arith, count_here k o no_side here, place, plain))

@@ -1,11 +1,11 @@
 -- How a walk through the marks of ports goes on.
 use Rattle.std.proofs.Common.{◌≡◌, ℕ, zero, suc, ◌<◌, ◌≤◌, List, [], ◌∷◌, ◌++◌, Bool, Result, Ok, Err, MatchResult, length, get_or, take, refl, sym, ◌∙◌, ap, subst, arith, inl, inr}
+use Rattle.std.proofs.lemmas.Bool.{cases_lt}
 use Rattle.std.proofs.Math.Seq.{take-append_seam}
 use Rattle.reo_net_base.specs.declared.mark.Mark.{Mark}
 use Rattle.reo_net_base.specs.declared.mark.Mark.TheVariants.{F, G, R}
 use Rattle.reo_net_base.specs.Net.{Net, Wiring, net_of}
 use Rattle.reo_net_base.specs.Step.{change_at}
-use Rattle.reo_net_circuit.proofs.Cases.{lt_cases}
 use Rattle.reo_net_laws.specs.Knots.{Knotted, in_knot}
 use Rattle.reo_open.specs.declared.gate.GateRows.{GateRows}
 use Rattle.reo_open.specs.declared.gate.GateRows.TheVariants.{All}
@@ -32,7 +32,7 @@ R-plain : IsPlain R
 R-plain e = cc
 
 pub short_by : (a b n : ℕ) → n ≡ a → (n ≡ b → ⊥) → a ≤ b → a < b
-short_by a b n is ne le = elim (lt_cases a b) [ inl less ↦ less | inr ge ↦ absurd (ne (omega arith)) ]
+short_by a b n is ne le = elim (cases_lt a b) [ inl less ↦ less | inr ge ↦ absurd (ne (omega arith)) ]
 
 put_twice : (a b : Open) (ps : List Open) (i : ℕ) (lt : i < length ps) → ((d : Open) → get_or ps i d ≡ b) → change_at (λ _. b) (change_at (λ _. a) ps i) i ≡ ps
 put_twice a b [] i lt is = refl

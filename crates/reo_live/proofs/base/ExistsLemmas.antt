@@ -14,7 +14,7 @@ use Rattle.reo_live.specs.base.Live.{Stand, Live, fresh, after_round, held_open}
 use Rattle.reo_live.specs.declared.base.answer.Answer.{Answer}
 use Rattle.reo_live.specs.declared.base.answer.Answer.TheVariants.{Made, Ended}
 use Rattle.reo_live.specs.base.Answers.{stopped_by}
-use Rattle.reo_rounds.proofs.OrderLemmas.{KeepsShape}
+use Rattle.reo_rounds.specs.Lasting.{KeepsShape}
 use Rattle.reo_rounds.proofs.RoundLemmas.{round_exists}
 use Rattle.reo_live.specs.base.Events.{Told, Does, effect, closing, refusing}
 use Rattle.reo_live.specs.declared.base.fault.LineRefusal.TheVariants as faults

@@ -17,7 +17,7 @@ use Rattle.reo_live.specs.base.Live.{Stand, Live, fresh, after_round, held_open}
 use Rattle.reo_live.specs.declared.base.answer.Answer.{Answer}
 use Rattle.reo_live.specs.declared.base.answer.Answer.TheVariants.{Made}
 use Rattle.reo_live.specs.base.Answers.{stopped_by}
-use Rattle.reo_rounds.proofs.OrderLemmas.{KeepsShape}
+use Rattle.reo_rounds.specs.Lasting.{KeepsShape}
 use Rattle.reo_rounds.proofs.RoundLemmas.{one_round}
 use Rattle.reo_live.specs.base.Events.{Told, Does, effect, closing}
 use Rattle.reo_live.specs.base.Hearing.{Judges, HearsAll, After, cleaned}

@@ -23,7 +23,8 @@ use Rattle.reo_live.specs.declared.base.fault.LineRefusal.{LineRefusal}
 use Rattle.reo_live.specs.base.Hearing.{Judges, HearsAll, cleaned}
 use Rattle.reo_rounds.specs.Order.{HasOrder}
 use Rattle.reo_rounds.specs.RoundOn.{first_within}
-use Rattle.reo_rounds.proofs.OrderLemmas.{KeepsShape, on_order}
+use Rattle.reo_rounds.specs.Lasting.{KeepsShape}
+use Rattle.reo_rounds.proofs.OrderLemmas.{on_order}
 
 module _ {P : Type 0} (r : Rules P) (k : KeepsShape r) where
   kept : (ps qs : List P) (joints : List Joint) → SameShapes (map r.behaviour ps) (map r.behaviour qs) → HasOrder (record { primitives = map r.behaviour ps; joints = joints })

@@ -1,12 +1,12 @@
 -- What began to be heard goes on to a closing.
 use Rattle.std.proofs.Common.{◌≡◌, inl, inr, ℕ, ◌≤◌, Bool, true, false, cond, List, [], ◌∷◌, ◌++◌, length, take, sym, subst, refl}
+use Rattle.std.proofs.lemmas.Bool.{cases_lt}
 use Rattle.std.proofs.lemmas.List.{append-nil, append_assoc}
-use Rattle.reo_values.proofs.Naturals.{lt_cases}
 use Rattle.reo_net_base.specs.Net.{Wiring, net_of}
 use Rattle.reo_net_base.specs.declared.port.Port.{Port}
 use Rattle.reo_rounds.specs.Order.{HasOrder}
 use Rattle.reo_rounds.specs.Rules.{Rules}
-use Rattle.reo_rounds.proofs.OrderLemmas.{KeepsShape}
+use Rattle.reo_rounds.specs.Lasting.{KeepsShape}
 use Rattle.reo_live.specs.declared.base.answer.Answer.{Answer}
 use Rattle.reo_live.specs.base.Held.{joined}
 use Rattle.reo_live.specs.base.Lines.{ended_lines, open_line}
@@ -70,7 +70,7 @@ module _ {P : Type 0} (r : Rules P) (ports : List Port) (budget : ℕ) where
       known : (events : Events) (u : Live P) (x z last : List Answer) → After r ports budget (beginning w) (take most_events events.bytes) u (x ++ z) → Last r ports budget u last
           → (b f : Bool) → u.stand.over ≡ b → events.failed ≡ f → GoesOn events x
       known events u x z last after end true f e g = (over, z, record { state = u; heard = x ++ z; after = after; by = (e, refl) })
-      known events u x z last after end false f e g = elim (lt_cases most_events (length events.bytes)) [
+      known events u x z last after end false f e g = elim (cases_lt most_events (length events.bytes)) [
         | inl long ↦ (many, z, record { state = u; heard = x ++ z; after = after; by = (e, long, refl) })
         | inr short ↦ few events u x z last after end f e g short
       ] where

@@ -10,12 +10,11 @@ use Rattle.reo_live.specs.declared.base.answer.Answer.{Answer}
 use Rattle.reo_live.specs.declared.base.answer.Answer.TheVariants.{Ended}
 use Rattle.reo_live.specs.base.Held.{Held, short, long}
 use Rattle.reo_live.specs.base.Live.{Stand, Live, beginning}
-use Rattle.reo_live.specs.base.Events.{Told}
 use Rattle.reo_live.specs.base.Hearing.{After, ClosesLine, Last}
 use Rattle.reo_live.specs.base.Laws.{HearingIsOne}
 use Rattle.reo_live.proofs.base.OrderLemmas.{all_order}
 use Rattle.reo_live.proofs.base.SumLemmas.{stand-stays}
-use Rattle.reo_rounds.proofs.OrderLemmas.{KeepsShape}
+use Rattle.reo_rounds.specs.Lasting.{KeepsShape}
 use Rattle.reo_live.specs.base.Lines.{ended_lines, open_line}
 use Rattle.reo_live.proofs.base.OneLemmas.{judges_one}
 use Rattle.reo_live.specs.closings.Sources.{Events, most_events}

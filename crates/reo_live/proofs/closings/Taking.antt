@@ -1,8 +1,8 @@
 -- The first of some bytes and then others.
 use Rattle.std.proofs.Common.{◌≡◌, ◌∙◌, inl, inr, ℕ, ◌+◌, ◌-◌, ◌≤◌, List, ◌++◌, length, take, sym, ap, arith}
+use Rattle.std.proofs.lemmas.Bool.{cases_lt}
 use Rattle.std.proofs.lemmas.List.{take-append-le, take_all, append-nil}
 use Rattle.std.proofs.Math.Seq.{take-append-add}
-use Rattle.reo_values.proofs.Naturals.{lt_cases}
 
 longer : (n k : ℕ) (xs ys : List ℕ) → n ≡ length xs + k → take n (xs ++ ys) ≡ take n xs ++ take k ys
 longer n k xs ys e =
@@ -11,7 +11,7 @@ longer n k xs ys e =
 
 -- Of both, the first n are the first n of the one, and as many of the other as are then missing.
 pub take_both : (n : ℕ) (xs ys : List ℕ) → take n (xs ++ ys) ≡ take n xs ++ take (n - length xs) ys
-take_both n xs ys = elim (lt_cases n (length xs)) [
+take_both n xs ys = elim (cases_lt n (length xs)) [
   | inl less ↦
       let none : n - length xs ≡ 0 = omega (arith, less) in
       let few : n ≤ length xs = omega (arith, less) in

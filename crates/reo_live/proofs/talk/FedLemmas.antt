@@ -17,7 +17,7 @@ use Rattle.reo_live.specs.base.Events.{Told}
 use Rattle.reo_live.specs.base.Hearing.{Judges, After, cleaned}
 use Rattle.reo_rounds.specs.Order.{HasOrder}
 use Rattle.reo_live.specs.base.Laws.{HearingExists}
-use Rattle.reo_rounds.proofs.OrderLemmas.{KeepsShape}
+use Rattle.reo_rounds.specs.Lasting.{KeepsShape}
 use Rattle.reo_live.proofs.base.OrderLemmas.{judges_order}
 use Rattle.reo_live.specs.declared.talk.fault.Going.{Going}
 use Rattle.reo_live.specs.declared.talk.fault.Going.TheVariants as goings

@@ -1,5 +1,6 @@
 -- Items that rows determine.
 use Rattle.std.proofs.Common.{◌≡◌, ◌≢◌, inl, inr, ℕ, zero, suc, ◌+◌, ◌<◌, List, [], ◌∷◌, Option, None, Some, Bool, true, false, length, get_or, set, drop, refl, ap, sym, ◌∙◌, arith, rules, cond, add-one, get_or-set_same, get_or-set_other}
+use Rattle.std.proofs.lemmas.Bool.{cases_eq}
 use Rattle.std.specs.Option.{option_and_then}
 use Rattle.std.proofs.Math.Seq.{drop-cons}
 use Rattle.std.proofs.lemmas.List.{get_or_default, same_lists, drop_all}
@@ -17,10 +18,9 @@ use Rattle.reo_net_base.specs.Wired.{IsWired, IsOrder}
 use Rattle.reo_net_circuit.specs.found_ends.Ends.{joint_at, AreEnds}
 use Rattle.reo_net_circuit.proofs.found_ends.EndLemmas.{taker_at, of_taker}
 use Rattle.reo_net_laws.proofs.Items.{end_is, given_same, end_same}
-use Rattle.reo_net_laws.proofs.Sides.{gives_at, row_in_table, row_below, side_in_range, same_side_at}
+use Rattle.reo_net.proofs.Sides.{gives_at, row_in_table, row_below, side_in_range, same_side_at}
 use Rattle.reo_net_laws.proofs.Orders.{no_joint, Feeds, place_in, place_of, fed_before}
 use Rattle.reo_net.proofs.colouring.FilledBefore.{AreFilledBefore}
-use Rattle.reo_net_circuit.proofs.Cases.{eq_cases}
 
 -- The ends of a joint.
 module _ (net : Net) (wired : IsWired net) (j : ℕ) (d : Joint) (lt : j < length net.joints) where
@@ -135,7 +135,7 @@ module _ (net : Net) (wired : IsWired net) (rows : List ℕ) (are : AreRows (all
         let before : get_or order earlier.0 0 ≢ get_or order at 0 = is_order.once earlier.0 at (omega (arith, earlier.1, m_lt)) lt in
         let other : k ≢ j = λ same. before (earlier.2 ∙ same ∙ sym there) in
         sym (get_or-set_other items j k item None other)) in
-        elim (eq_cases m at) [
+        elim (cases_eq m at) [
           | inl here ↦
               let place : get_or order m 0 ≡ j = rw here there in
               rw place (get_or-set_same items j item None (omega (arith, n, j_in)) ∙ is ∙ ap (λ (x : Joint). item_given net rows items x) (get_or_default net.joints j dj d j_in) ∙ rw place at kept)

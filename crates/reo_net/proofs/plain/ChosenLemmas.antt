@@ -1,5 +1,6 @@
 -- Rows that agree at the chosen sides.
 use Rattle.std.proofs.Common.{◌≡◌, ◌≢◌, inl, inr, ℕ, suc, zero, ◌+◌, ◌<◌, Bool, not, cond, replicate, List, [], ◌∷◌, Option, true, false, length, get_or, set, refl, ap, sym, ◌∙◌, arith}
+use Rattle.std.proofs.lemmas.Bool.{both_ways, cases_lt, cases_eq}
 use Rattle.std.specs.Ordering.{is_lt}
 use Rattle.std.specs.List.{count_by}
 use Rattle.std.specs.declared.cmp.Ordering.{Ordering}
@@ -8,17 +9,15 @@ use Rattle.std.specs.Cmp.Lexicographic.{nat_list_cmp_total}
 use Rattle.std.proofs.lemmas.List.{length-set, length-replicate, ext_get_or, get_or_past, get_or-replicate, get_or-set_same, get_or-set_other}
 use Rattle.std.proofs.lemmas.List.Sums.{sum_by-cons}
 use Rattle.reo_values.specs.declared.value.Value.{Value}
-use Rattle.reo_values.proofs.Truths.{no_both}
 use Rattle.reo_net_base.specs.declared.joint.End.{End}
 use Rattle.reo_net_base.specs.declared.joint.Joint.{Joint}
 use Rattle.reo_net_base.specs.Net.{Net, Side, all_sides, row_count, side_at, row_at}
 use Rattle.reo_net_base.specs.Sides.{side_count}
 use Rattle.reo_net_base.specs.Colouring.{AreRows, IsColouring, JointMatches}
 use Rattle.reo_net_base.specs.First.{key_at, positions, order_of}
-use Rattle.reo_net_laws.proofs.Sides.{are_rows, rows_length, row_below, row_is}
+use Rattle.reo_net.proofs.Sides.{are_rows, rows_length, row_below, row_is}
 use Rattle.reo_net_laws.proofs.Items.{mark_moved}
 use Rattle.reo_net.specs.plain.Chosen.{IsChosen, AllChosen, IsBetween, Agrees, Improves}
-use Rattle.reo_net_circuit.proofs.Cases.{lt_cases, eq_cases}
 use Rattle.reo_net_laws.proofs.Least.{own_reverse}
 
 -- A joint between chosen sides matches by these rows where it does by others that agree.
@@ -31,7 +30,7 @@ match_agrees net chosen rows others joint agrees between matches =
 module _ (sides : List Side) (rows : List ℕ) (are : AreRows sides rows) where
   put_below : (side row : ℕ) → side < length sides → ((d : Side) → row < row_count (get_or sides side d)) → (k : ℕ) (d : Side) → k < length sides → get_or (set rows side row) k 0 < row_count (get_or sides k d)
   put_below side row in_range below k d lt =
-      elim (eq_cases k side) [
+      elim (cases_eq k side) [
         | inl here ↦ rw (here, get_or-set_same rows side row 0 (omega (arith, in_range, rows_length sides rows are))) (below d)
         | inr there ↦ rw (get_or-set_other rows side k row 0 there) (row_below sides rows are k d lt)
       ]
@@ -47,7 +46,7 @@ module _ (chosen : List Bool) (side : ℕ) where
 
   pub agrees_more : (rows changed others : List ℕ) → side < length changed → Agrees chosen rows others → Agrees chosen rows changed → Agrees (set chosen side true) (set changed side (get_or others side 0)) others
   agrees_more rows changed others lt agrees kept k is =
-      elim (eq_cases k side) [
+      elim (cases_eq k side) [
         | inl here ↦ rw here (sym (get_or-set_same changed side (get_or others side 0) 0 lt))
         | inr there ↦
             let before = chosen_before k there is in
@@ -56,8 +55,8 @@ module _ (chosen : List Bool) (side : ℕ) where
 
   pub agrees_less : (rows changed others : List ℕ) (row : ℕ) → get_or chosen side false ≡ false → side < length chosen → Agrees chosen rows changed → Agrees (set chosen side true) (set changed side row) others → Agrees chosen rows others
   agrees_less rows changed others row left lt kept agrees k is =
-      elim (eq_cases k side) [
-        | inl here ↦ absurd (no_both (get_or chosen side false) (rw here at is) left)
+      elim (cases_eq k side) [
+        | inl here ↦ absurd (both_ways (get_or chosen side false) left (rw here at is))
         | inr there ↦
             agrees k (get_or-set_other chosen side k true false there ∙ is) ∙ get_or-set_other changed side k row 0 there ∙ kept k is
       ]
@@ -130,7 +129,7 @@ improves_more net turn chosen rows changed side row old mid new mid_items items 
   colouring = better.colouring;
   not_after_old = λ others h. better.not_after_old others (before.not_after_old others h);
   not_after_tried = λ others other_items col tried.
-      elim (lt_cases (get_or others side 0) row) [
+      elim (cases_lt (get_or others side 0) row) [
         | inl earlier ↦ better.not_after_old others (before.not_after_tried others other_items col (tried.0, earlier))
         | inr later ↦
             let same : get_or others side 0 ≡ row = omega (arith, later, tried.1) in
@@ -140,11 +139,11 @@ improves_more net turn chosen rows changed side row old mid new mid_items items 
 
 none_is_chosen : (count k : ℕ) → get_or (replicate count false) k false ≡ false
 none_is_chosen count k =
-    elim (lt_cases k count) [
+    elim (cases_lt k count) [
       | inl here ↦ get_or-replicate count k false false here
       | inr past ↦ get_or_past (replicate count false) k false (omega (arith, past, length-replicate {A = Bool} count false))
     ]
 
 -- Where no side is chosen, all rows agree.
 pub none_differs : (count : ℕ) (rows others : List ℕ) → Agrees (replicate count false) rows others
-none_differs count rows others k is = absurd (no_both (get_or (replicate count false) k false) is (none_is_chosen count k))
+none_differs count rows others k is = absurd (both_ways (get_or (replicate count false) k false) (none_is_chosen count k) is)

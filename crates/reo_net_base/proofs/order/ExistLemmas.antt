@@ -1,13 +1,11 @@
 -- An order of all arrows, or a cycle.
 use Rattle.std.proofs.Common.{◌≡◌, ◌⊎◌, inl, inr, ℕ, zero, suc, ◌+◌, ◌<◌, ◌≤◌, Bool, true, false, not, List, [], ◌∷◌, ◌++◌, length, get_or, set, replicate, cond, refl, sym, ◌∙◌, arith, below_more}
+use Rattle.std.proofs.lemmas.Bool.{not-true, cases_lt, cases_eq}
 use Rattle.std.proofs.Math.Seq.{get_or-append_seam}
 use Rattle.std.proofs.lemmas.List.{length-append, length-replicate, get_or-replicate, get_or_append_left, get_or_past}
 use Rattle.std.proofs.lemmas.List.Folds.{sum_by-replicate}
-use Rattle.reo_values.proofs.Truths.{not_true}
-use Rattle.reo_values.proofs.Naturals.{lt_cases}
 use Rattle.reo_net_base.specs.order.Arrows.{Leads, HasCycle, AreFed, IsTopological, OrderExists}
 use Rattle.reo_net_base.specs.order.Queue.{IsQueue}
-use Rattle.reo_net_base.proofs.order.Cases.{eq_cases}
 use Rattle.reo_net_base.proofs.order.QueueLemmas.{queue_push}
 use Rattle.reo_net_base.proofs.order.WalkLemmas.{leads_one, leads_on, stuck}
 
@@ -36,7 +34,7 @@ module _ (from to : List ℕ) where
   feeder placed j zero le = inr (λ k lt. absurd (omega arith))
   feeder placed j (suc n) le = elim (feeder placed j n (omega arith)) [
     | inl found ↦ inl found
-    | inr none ↦ elim (eq_cases (get_or to n 0) (get_or from j 0)) [
+    | inr none ↦ elim (cases_eq (get_or to n 0) (get_or from j 0)) [
       | inl feeds ↦ elim (get_or placed n false) as (λ t. get_or placed n false ≡ t → ((k : ℕ) × IsFedBy placed j k) ⊎ ((k : ℕ) → k < suc n → get_or to k 0 ≡ get_or from j 0 → get_or placed k false ≡ true)) [
         | false ↦ λ free. inl (n, record { in_range = omega arith; free = free; feeds = feeds })
         | true ↦ λ is. inr (λ k lt. below_more (λ i. get_or to i 0 ≡ get_or from j 0 → get_or placed i false ≡ true) n none (λ e. is) k (omega arith))
@@ -95,7 +93,7 @@ module _ (from to : List ℕ) where
   cycle placed j lt free fed =
       let found = stuck (λ (i k : ℕ). (i < length from) × (k < length from) × Leads from to i k) (λ i k l a b. (a.0, b.1, leads_on from to i k l a.1 a.2 b.2)) (λ (i : ℕ). not (get_or placed i false)) (length from)
       (λ i i_lt i_free.
-      let by = fed i i_lt (not_true (get_or placed i false) i_free) in
+      let by = fed i i_lt (not-true (get_or placed i false) i_free) in
       (by.0, by.1.in_range, rw by.1.free refl, (by.1.in_range, i_lt, leads_one from to by.0 i (sym by.1.feeds))))
       j lt (rw free refl) in
       (found.0, (found.1, found.2.2))
@@ -113,7 +111,7 @@ module _ (from to : List ℕ) where
   ]
 
 unset : (n j : ℕ) → get_or (replicate n false) j false ≡ true → ⊥
-unset n j is = elim (lt_cases j n) [
+unset n j is = elim (cases_lt j n) [
   | inl lt ↦ cc (get_or-replicate n j false false lt, is)
   | inr le ↦ cc (get_or_past (replicate n false) j false (omega (arith, le, length-replicate n false)), is)
 ]

@@ -1,9 +1,9 @@
 -- One more arrow is linked.
 use Rattle.std.proofs.Common.{◌≡◌, ◌≢◌, inl, inr, ℕ, zero, suc, ◌+◌, ◌<◌, ◌≤◌, List, [], ◌∷◌, ◌++◌, length, get_or, set, replicate, refl, sym, ◌∙◌, arith, below_more, get_or-set_same, get_or-set_other}
+use Rattle.std.proofs.lemmas.Bool.{cases_eq}
 use Rattle.std.proofs.Math.Seq.{get_or-append_seam}
 use Rattle.std.proofs.lemmas.List.{length-append, length-set, length-replicate, get_or_append_left}
 use Rattle.reo_net_base.specs.order.Links.{IsLast, AreLinks}
-use Rattle.reo_net_base.proofs.order.Cases.{eq_cases}
 
 pub record Linking (ends first next : List ℕ) (sides n : ℕ) : Type 0 where
   pub first_length : length first ≡ sides
@@ -33,7 +33,7 @@ link_more ends first next sides n is lt =
     record {
       first_length = length-set first side (n + 1) ∙ is.first_length;
       next_length = omega (arith, length-append next (get_or first side 0 ∷ []), is.next_length);
-      firsts = λ s s_in. elim (eq_cases s side) [
+      firsts = λ s s_in. elim (cases_eq s side) [
         | inl e ↦ rw e (rw (get_or-set_same first side (n + 1) 0 in_first) (last_here ends side n refl))
         | inr ne ↦ rw (get_or-set_other first side s (n + 1) 0 ne) (last_kept ends s n (get_or first s 0) (is.firsts s s_in) (λ e. ne (sym e)))
       ];

@@ -1,12 +1,11 @@
 -- One more arrow in the list.
 use Rattle.std.proofs.Common.{◌≡◌, ◌≢◌, inl, inr, ℕ, ◌+◌, ◌<◌, ◌≤◌, Bool, true, false, not, cond, List, [], ◌∷◌, ◌++◌, length, get_or, set, refl, ap, sym, ◌∙◌, arith, below_more, get_or-set_same, get_or-set_other}
+use Rattle.std.proofs.lemmas.Bool.{cases_lt, cases_eq}
 use Rattle.std.proofs.Math.Seq.{get_or-append_seam}
 use Rattle.std.proofs.lemmas.List.{length-append, length-set, get_or_append_left}
 use Rattle.std.proofs.lemmas.List.Sums.{sum_by-set}
-use Rattle.reo_values.proofs.Naturals.{lt_cases}
 use Rattle.reo_net_base.specs.order.Links.{IsLast}
 use Rattle.reo_net_base.specs.order.Queue.{IsQueue, Grown, Pushed}
-use Rattle.reo_net_base.proofs.order.Cases.{eq_cases}
 
 pub grown_same : (xs : List ℕ) → Grown xs xs
 grown_same xs = record { longer = omega arith; kept = λ m lt. refl }
@@ -27,7 +26,7 @@ placed_still n m old new before after q r g j is =
     rw same at (r.flagged there.0 (omega (arith, there.1)))
 
 pub set_true : (placed : List Bool) (j k : ℕ) → get_or placed k false ≡ true → j < length placed → get_or (set placed j true) k false ≡ true
-set_true placed j k is lt = elim (eq_cases k j) [
+set_true placed j k is lt = elim (cases_eq k j) [
   | inl e ↦ rw e (get_or-set_same placed j true false lt)
   | inr ne ↦ get_or-set_other placed j k true false ne ∙ is
 ]
@@ -47,7 +46,7 @@ queue_push n order placed j q lt free =
       flagged = λ m m_lt. below_more (λ k. get_or (set placed j true) (get_or (order ++ j ∷ []) k 0) false ≡ true) (length order)
           (λ k k_lt. rw (get_or_append_left order (j ∷ []) 0 k k_lt) (set_true placed j (get_or order k 0) (q.flagged k k_lt) in_flags))
           (rw seam (get_or-set_same placed j true false in_flags)) m (omega arith);
-      there = λ k is. elim (eq_cases k j) [
+      there = λ k is. elim (cases_eq k j) [
         | inl e ↦ (length order, omega arith, seam ∙ sym e)
         | inr ne ↦
             let was = q.there k (sym (get_or-set_other placed j k true false ne) ∙ is) in
@@ -77,12 +76,12 @@ queue_pop n order placed j q =
       flagged = λ m m_lt.
           let other : get_or order m 0 ≢ j = λ e. q.once m (length order) m_lt last (left m m_lt ∙ e ∙ sym seam) in
           get_or-set_other placed j (get_or order m 0) false false other ∙ (rw (left m m_lt) at (q.flagged m (omega arith)));
-      there = λ k is. elim (eq_cases k j) [
+      there = λ k is. elim (cases_eq k j) [
         | inl e ↦ let no = get_or-set_same placed j false false in_flags in let yes = rw e at is in cc
         | inr ne ↦
             let was = q.there k (sym (get_or-set_other placed j k false false ne) ∙ is) in
             let was_lt = was.1 in
-            elim (eq_cases was.0 (length order)) [
+            elim (cases_eq was.0 (length order)) [
               | inl same ↦ absurd (ne (sym was.2 ∙ (ap (λ (x : ℕ). get_or (order ++ j ∷ []) x 0) same ∙ seam)))
               | inr other ↦ let m_lt : was.0 < length order = omega arith in (was.0, m_lt, sym (left was.0 m_lt) ∙ was.2)
             ]
@@ -123,9 +122,9 @@ module _ (ends : List ℕ) (side : ℕ) (old : List ℕ) where
       record {
         queue = p.queue;
         grown = p.grown;
-        after = λ k le lt k_is. elim (lt_cases k j) [
+        after = λ k le lt k_is. elim (cases_lt k j) [
           | inl below ↦ absurd (last.none_after k le below (k_is ∙ sym here))
-          | inr above ↦ elim (eq_cases k j) [
+          | inr above ↦ elim (cases_eq k j) [
             | inl e ↦ rw e is
             | inr ne ↦ p.after k (omega arith) lt k_is
           ]

@@ -1,6 +1,6 @@
 -- The arrows to which a arrow leads.
 use Rattle.std.proofs.Common.{◌≡◌, inl, inr, ℕ, ◌+◌, ◌<◌, ◌≤◌, Bool, true, false, List, [], ◌∷◌, length, get_or, sym, arith, below_more}
-use Rattle.reo_values.proofs.Naturals.{lt_cases}
+use Rattle.std.proofs.lemmas.Bool.{cases_lt}
 use Rattle.reo_net_base.specs.order.Arrows.{Walk, Leads, OnCycle}
 use Rattle.reo_net_base.specs.order.Queue.{IsQueue, Pushed}
 use Rattle.reo_net_base.proofs.order.QueueLemmas.{placed_still}
@@ -23,7 +23,7 @@ module _ (from to : List ℕ) (arrow : ℕ) where
       record {
         queue = p.queue;
         within = omega arith;
-        sound = λ m m_lt. elim (lt_cases m (length old)) [
+        sound = λ m m_lt. elim (cases_lt m (length old)) [
           | inl h ↦ rw (p.grown.kept m h) (r.sound m h)
           | inr h ↦ leads_on from to arrow (get_or old at 0) (get_or new m 0) (r.queue.in_range at lt) (r.sound at lt) (leads_one from to (get_or old at 0) (get_or new m 0) (p.only m h m_lt))
         ];

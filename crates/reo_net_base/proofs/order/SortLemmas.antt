@@ -1,12 +1,11 @@
 -- Putting the arrows in order.
 use Rattle.std.proofs.Common.{◌≡◌, ◌≢◌, inl, inr, ℕ, zero, suc, ◌+◌, ◌<◌, ◌≤◌, Bool, true, false, not, List, length, get_or, set, refl, ap, sym, ◌∙◌, arith, get_or-set_same, get_or-set_other}
+use Rattle.std.proofs.lemmas.Bool.{cases_lt, cases_eq}
 use Rattle.std.proofs.lemmas.List.{length-set}
-use Rattle.reo_values.proofs.Naturals.{lt_cases}
 use Rattle.reo_net_base.specs.order.Arrows.{Leads, HasCycle, AreFed}
 use Rattle.reo_net_base.specs.order.Front.{IsFront}
 use Rattle.reo_net_base.specs.order.Links.{IsLast}
 use Rattle.reo_net_base.specs.order.Queue.{IsQueue, Pushed, IsSkipped}
-use Rattle.reo_net_base.proofs.order.Cases.{eq_cases}
 use Rattle.reo_net_base.proofs.order.QueueLemmas.{placed_still}
 use Rattle.reo_net_base.proofs.order.WalkLemmas.{leads_one, leads_on, stuck}
 
@@ -62,7 +61,7 @@ module _ (from to : List ℕ) (one_each : length to ≡ length from) where
           here = is.here;
           pending = λ j e placed.
               let there = p.queue.there j placed in
-              elim (lt_cases there.0 (length old)) [
+              elim (cases_lt there.0 (length old)) [
                 | inl h ↦
                     let same = sym (p.grown.kept there.0 h) ∙ there.2 in
                     let was = is.pending j e (rw same at (q.flagged there.0 h)) in
@@ -80,7 +79,7 @@ module _ (from to : List ℕ) (one_each : length to ≡ length from) where
           queue = p.queue;
           within = omega arith;
           waiting = λ t t_lt. waiting_push at t (get_or waits t 0) within (s.waiting t t_lt);
-          fed = λ m m_lt k k_lt e. elim (lt_cases m (length old)) [
+          fed = λ m m_lt k k_lt e. elim (cases_lt m (length old)) [
             | inl h ↦
                 let was = s.fed m h k k_lt (rw (p.grown.kept m h) at e) in
                 let was_lt = was.1 in
@@ -97,7 +96,7 @@ module _ (from to : List ℕ) (one_each : length to ≡ length from) where
 
     pub ready_push : (waits : List ℕ) (limit : ℕ) → ((s : ℕ) → s < limit → s ≢ side → get_or waits s 0 ≡ 0 → (j : ℕ) → j < length from → get_or from j 0 ≡ s → get_or before j false ≡ true) → AreReady from after waits limit
     ready_push waits limit r = record {
-      ready = λ s lt none j j_lt e. elim (eq_cases s side) [
+      ready = λ s lt none j j_lt e. elim (cases_eq s side) [
         | inl same ↦ p.all j j_lt (e ∙ same)
         | inr ne ↦ still j (r s lt ne none j j_lt e)
       ];
@@ -113,7 +112,7 @@ module _ (from to : List ℕ) (one_each : length to ≡ length from) where
       pending = λ j e placed.
           let was = is.pending j e placed in
           let was_le = was.1 in
-          elim (eq_cases was.0 at) [
+          elim (cases_eq was.0 at) [
             | inl same ↦ absurd (ne (sym (ap (λ (x : ℕ). get_or to x 0) (rw same at was.3) ∙ is.here j e)))
             | inr other ↦ (was.0, omega arith, was.2, was.3)
           ];
@@ -132,7 +131,7 @@ module _ (from to : List ℕ) (one_each : length to ≡ length from) where
     sorting_past none = record {
       queue = s.queue;
       within = omega arith;
-      waiting = λ t t_lt. elim (eq_cases t (get_or to (get_or order at 0) 0)) [
+      waiting = λ t t_lt. elim (cases_eq t (get_or to (get_or order at 0) 0)) [
         | inl e ↦ waiting_done t (get_or waits t 0) (s.waiting t t_lt) (rw e none)
         | inr ne ↦ waiting_other t (get_or waits t 0) (s.waiting t t_lt) ne
       ];
@@ -145,7 +144,7 @@ module _ (from to : List ℕ) (one_each : length to ≡ length from) where
         let v_in = skipped.within in
         record {
           within = omega arith;
-          passed = λ j le j_lt e. elim (lt_cases j w) [ inl h ↦ skipped.passed j le h e | inr h ↦ is.passed j h j_lt e ];
+          passed = λ j le j_lt e. elim (cases_lt j w) [ inl h ↦ skipped.passed j le h e | inr h ↦ is.passed j h j_lt e ];
           here = skipped.here;
           pending = λ j e placed. let free = skipped.free j e in cc;
         }
@@ -156,7 +155,7 @@ module _ (from to : List ℕ) (one_each : length to ≡ length from) where
       within = omega arith;
       waiting = λ t t_lt.
           let t_in : t < length waits = omega (arith, length-set waits side v) in
-          elim (eq_cases t side) [
+          elim (cases_eq t side) [
             | inl e ↦ rw e (rw (get_or-set_same waits side v 0 side_lt) (waiting_skip side (get_or waits side 0) v (s.waiting side side_lt) skipped))
             | inr ne ↦ rw (get_or-set_other waits side t v 0 ne) (waiting_other t (get_or waits t 0) (s.waiting t t_in) (λ e. ne (e ∙ sym is)))
           ];
@@ -197,7 +196,7 @@ module _ (from to : List ℕ) (one_each : length to ≡ length from) where
 -- A side waits on.
 pub ready_skip : (from : List ℕ) (placed : List Bool) (waits : List ℕ) (side v : ℕ) → AreReady from placed waits (length waits) → side < length waits → v ≢ 0 → AreReady from placed (set waits side v) (length (set waits side v))
 ready_skip from placed waits side v r lt some = record {
-  ready = λ s s_lt none. elim (eq_cases s side) [
+  ready = λ s s_lt none. elim (cases_eq s side) [
     | inl e ↦ absurd (some (sym (get_or-set_same waits side v 0 lt) ∙ (rw e at none)))
     | inr ne ↦ r.ready s (omega (arith, length-set waits side v)) (sym (get_or-set_other waits side s v 0 ne) ∙ none)
   ];

@@ -1,7 +1,7 @@
 -- Walks.
 use Rattle.std.proofs.Common.{◌≡◌, ◌≢◌, inl, inr, ℕ, zero, suc, ◌+◌, ◌<◌, Bool, true, false, List, [], ◌∷◌, ◌++◌, length, get_or, refl, sym, arith}
+use Rattle.std.proofs.lemmas.Bool.{cases_eq}
 use Rattle.reo_net_base.specs.order.Arrows.{Walk, Leads, OnCycle, AreFed, IsTopological}
-use Rattle.reo_net_base.proofs.order.Cases.{eq_cases}
 
 module _ (from to : List ℕ) where
   pub walk_on : (s t u : ℕ) (js ks : List ℕ) → Walk from to s js t → Walk from to t ks u → Walk from to s (js ++ ks) u
@@ -72,7 +72,7 @@ module _ (R : ℕ → ℕ → Type 0) (on : (i j k : ℕ) → R i j → R j k �
   past n k k_lt k_is r fed j lt is =
       let f = fed j (omega arith) is in
       let f_lt = f.1 in
-      elim (eq_cases f.0 n) [
+      elim (cases_eq f.0 n) [
         | inl e ↦ (k, k_lt, k_is, on k n j r (rw e at f.3))
         | inr ne ↦ (f.0, omega arith, f.2, f.3)
       ]
@@ -89,7 +89,7 @@ module _ (R : ℕ → ℕ → Type 0) (on : (i j k : ℕ) → R i j → R j k �
         | true ↦ λ inside.
             let f = fed n (omega arith) inside in
             let f_lt = f.1 in
-            elim (eq_cases f.0 n) [
+            elim (cases_eq f.0 n) [
               | inl e ↦ (n, omega arith, rw e at f.3)
               | inr ne ↦
                   let found = stuck n (past n f.0 (omega arith) f.2 f.3 fed) f.0 (omega arith) f.2 in

@@ -7,8 +7,7 @@ use Rattle.reo_net_base.specs.Ends.{IsGiver, IsTaker}
 use Rattle.reo_net_base.specs.Wired.{IsWired, IsEnd}
 use Rattle.reo_net_circuit.specs.found_ends.Ends.{joint_at, HasEnd, AreEnds}
 use Rattle.reo_net_circuit.specs.found_ends.Laws.{EndsFindJoints}
-use Rattle.std.proofs.lemmas.Bool.{or_left, or_right}
-use Rattle.reo_values.proofs.Truths.{either}
+use Rattle.std.proofs.lemmas.Bool.{or_left, or_right, or_cases}
 use Rattle.reo_net_base.proofs.Ends.{end_is, end_self}
 
 takes : Net → End → Bool
@@ -29,7 +28,7 @@ module _ (net : Net) (wired : IsWired net) (table : List (List ℕ)) (are : AreE
   unfolding takes
   giver_at e d is =
       let joint : Joint = get_or net.joints (joint_at table e) d in
-      elim (either (end_eq joint.giver e) (end_eq joint.taker e) (are.here e d is.is_end)) [
+      elim (or_cases (end_eq joint.giver e) (end_eq joint.taker e) (are.here e d is.is_end)) [
         | inl here ↦ end_is joint.giver e here
         | inr other ↦
             let wrong : true ≡ false = sym (wired.takes (joint_at table e) d (are.in_range e is.is_end)) ∙ ap (takes net) (end_is joint.taker e other) ∙ is.gives in
@@ -40,7 +39,7 @@ module _ (net : Net) (wired : IsWired net) (table : List (List ℕ)) (are : AreE
   unfolding takes
   taker_at e d is =
       let joint : Joint = get_or net.joints (joint_at table e) d in
-      elim (either (end_eq joint.giver e) (end_eq joint.taker e) (are.here e d is.is_end)) [
+      elim (or_cases (end_eq joint.giver e) (end_eq joint.taker e) (are.here e d is.is_end)) [
         | inl other ↦
             let wrong : false ≡ true = sym (wired.gives (joint_at table e) d (are.in_range e is.is_end)) ∙ ap (takes net) (end_is joint.giver e other) ∙ is.takes in
             cc

@@ -1,13 +1,13 @@
 -- Classes hang on flow, in every round.
 use Rattle.std.proofs.Common.{inl, inr, sym, arith}
 use Rattle.reo_net_base.specs.Behaviour.{FlowsWithin}
-use Rattle.reo_net_laws.proofs.Sides.{below_or}
+use Rattle.std.proofs.lemmas.Bool.{cases_lt}
 use Rattle.reo_net_laws.proofs.Search.{flow_or}
 use Rattle.reo_net_laws.specs.state_laws.Turns.{MoreFlowIsNoLater, OneClassStaysOne}
 
 pub no_later : MoreFlowIsNoLater
 no_later b lawful side row other turn plain within =
-    elim (below_or (b.class side other turn) (b.class side row turn)) [
+    elim (cases_lt (b.class side other turn) (b.class side row turn)) [
       | inr le ↦ le
       | inl lt ↦
           let both : FlowsWithin b side row other = λ end is flows. elim (flow_or (b.mark side other end)) [

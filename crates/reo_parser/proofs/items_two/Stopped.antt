@@ -15,7 +15,7 @@ use Rattle.reo_cursor.specs.declared.halt.Halt.{Halt}
 use Rattle.reo_cursor.specs.declared.halt.Halt.TheVariants as halts
 use Rattle.reo_cursor.specs.Reading.{Gives, word_at}
 use Rattle.reo_terms.specs.Reading.{read_plain}
-use Rattle.reo_terms.proofs.Turns.{goes_on}
+use Rattle.reo_parser.proofs.Turns.{goes_on}
 
 then-stops : {A B : Type 0} (o : Outcome A) (f : A → List Lexeme → Outcome B) (left : List Lexeme) (halt : Halt) → Gives {A = A} (Err halt) left o → Gives {A = B} (Err halt) left (then o f)
 then-stops o f left halts.Syntax e = rw e refl

@@ -10,7 +10,7 @@ use Rattle.reo_trees.specs.SaysTwo.{IsLooped, item_starts, most_loops}
 use Rattle.reo_trees.specs.loops.Places.{is_for, lets_item, begins_loop}
 use Rattle.reo_trees.proofs.loops.Places.{lets_next, begins_next, looped-so, looped-only}
 use Rattle.reo_terms.proofs.Decided.{Decided, less-decided}
-use Rattle.reo_terms.proofs.Fronts.{take-next}
+use Rattle.reo_parser.proofs.Fronts.{take-next}
 use Rattle.reo_parser.specs.declared.two.depth.LoopDepth.{LoopDepth}
 use Rattle.reo_parser.specs.two.LoopDepth.{Deepens}
 

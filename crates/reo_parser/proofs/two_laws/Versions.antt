@@ -16,7 +16,7 @@ use Rattle.reo_trees.specs.Rules.{circuit_rules}
 use Rattle.reo_trees.specs.Table.{circuit_table}
 use Rattle.reo_trees.specs.Says.{most_levels}
 use Rattle.reo_trees.proofs.Versions.{no_word}
-use Rattle.reo_terms.proofs.Fronts.{nowhere-none}
+use Rattle.reo_parser.proofs.Fronts.{nowhere-none}
 use Rattle.reo_parser.specs.declared.fault.ParseFault.{ParseFault}
 use Rattle.reo_parser.specs.declared.fault.ParseFault.TheVariants as faults
 use Rattle.reo_parser.specs.Parsed.{IsSyntax, Answers}

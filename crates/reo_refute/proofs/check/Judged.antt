@@ -18,7 +18,7 @@ use Rattle.reo_refute_base.specs.laws.Laws.{ItemsAreListed}
 use Rattle.reo_refute_base.proofs.laws.Standing.{passed_length}
 use Rattle.reo_refute_parts.proofs.lists.NotedLemmas.{added_distinct}
 use Rattle.reo_refute_base.specs.faults.Faults.{HasColouring, IsProof}
-use Rattle.reo_refute_live.specs.Open.{AreSmall}
+use Rattle.reo_refute_live.specs.OpenBranch.{AreSmall}
 use Rattle.reo_refute.specs.declared.check.lines.Lines.{Lines}
 use Rattle.reo_refute.specs.declared.check.stop.LogStop.{LogStop}
 use Rattle.reo_refute.specs.declared.check.stop.LogStop.TheVariants.{Colouring, Wide, Line, NoMemory}

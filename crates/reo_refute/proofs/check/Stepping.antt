@@ -12,8 +12,8 @@ use Rattle.reo_refute_base.specs.Steps.{branches, IsStep}
 use Rattle.reo_refute_base.specs.Steps.IsStep.{drop, empty, split}
 use Rattle.reo_refute_base.proofs.laws.Prefixes.{heads_same}
 use Rattle.reo_refute_live.specs.support.Families.{family_of}
-use Rattle.reo_refute_live.specs.declared.branches.Open.{Open}
-use Rattle.reo_refute_live.specs.Open.{open_in, still_open}
+use Rattle.reo_refute_live.specs.declared.branches.OpenBranch.{OpenBranch}
+use Rattle.reo_refute_live.specs.OpenBranch.{open_in, still_open}
 use Rattle.reo_refute.specs.declared.check.lines.Lines.{Lines}
 use Rattle.reo_refute.specs.declared.check.stop.LogStop.{LogStop}
 use Rattle.reo_refute.specs.declared.check.stop.LogStop.TheVariants.{Line}
@@ -63,7 +63,7 @@ module _ (net : Net) (lists : Lists) (allowed : ℕ → ℕ → Type 0) where
   split_asks before after line (split live open' a may) f o j e l =
       subst (λ (x : Family). MaySplit net lists x j) (heads_same live f open' o e) (subst (MaySplit net lists live) (split_joint a j l) may)
 
-  module _ (live after : Open) (old new : Lines) where
+  module _ (live after : OpenBranch) (old new : Lines) where
     -- A line was read that does not go on.
     pub stuck_taken : (line : LogLine) → IsNext old new line → ((now : List Family) → IsStep net lists allowed (open_in live) line now → ⊥) → (stop : LogStop) → stop ≡ Line new.count
         → IsStepTaken net lists allowed live after old new (Err stop)

@@ -20,8 +20,8 @@ use Rattle.reo_net_base.specs.First.{positions}
 use Rattle.reo_refute_base.specs.Texts.{IsNumbered, line_text, log_text}
 use Rattle.reo_refute_base.proofs.laws.LineTexts.{lines_are_told}
 use Rattle.reo_refute_base.proofs.laws.Reading.{branches_are_read}
-use Rattle.reo_refute_live.specs.declared.branches.Open.{Open}
-use Rattle.reo_refute_live.specs.Open.{open_in}
+use Rattle.reo_refute_live.specs.declared.branches.OpenBranch.{OpenBranch}
+use Rattle.reo_refute_live.specs.OpenBranch.{open_in}
 use Rattle.reo_refute.specs.declared.check.lines.Lines.{Lines}
 use Rattle.reo_refute.specs.declared.check.stop.LogStop.{LogStop}
 use Rattle.reo_refute.specs.declared.check.stop.LogStop.TheVariants.{Colouring, Wide, Line, NoMemory}
@@ -227,7 +227,7 @@ branch_read net turn given lists p old new l = record {
 }
 
 -- Where a step stops, the part does.
-pub part_stops : (net : Net) (lists : Lists) (allowed : ℕ → ℕ → Type 0) (start old new after : Lines) (live next : Open) (stop : LogStop) → Leads net lists allowed start old (open_in live)
+pub part_stops : (net : Net) (lists : Lists) (allowed : ℕ → ℕ → Type 0) (start old new after : Lines) (live next : OpenBranch) (stop : LogStop) → Leads net lists allowed start old (open_in live)
     → IsStepTaken net lists allowed live next old new (Err stop) → IsPartTaken net lists allowed start after (Err stop)
 part_stops net lists allowed start old new after live next (Line line) l s = branch_stuck net lists allowed start old (open_in live) line l (λ e. cc) s.0 s.1
 part_stops net lists allowed start old new after live next (Colouring wrong) l s = s

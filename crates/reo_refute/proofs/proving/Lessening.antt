@@ -18,8 +18,8 @@ use Rattle.reo_refute_base.specs.Steps.IsStep.{drop, empty, split}
 use Rattle.reo_refute_base.specs.measure.Owed.{live_count, owed_for, owed}
 use Rattle.reo_refute_base.proofs.measure.Lessening.{drops_lessen, splits_lessen}
 use Rattle.reo_refute_live.specs.support.Families.{family_of}
-use Rattle.reo_refute_live.specs.declared.branches.Open.{Open}
-use Rattle.reo_refute_live.specs.Open.{open_in, still_open}
+use Rattle.reo_refute_live.specs.declared.branches.OpenBranch.{OpenBranch}
+use Rattle.reo_refute_live.specs.OpenBranch.{open_in, still_open}
 use Rattle.reo_refute.specs.next.Next.{LeadsOn}
 use Rattle.reo_refute.specs.proving.Making.{AreFew, LeadsTo}
 
@@ -45,7 +45,7 @@ module _ (net : Net) (lists : Lists) where
   more_less : (a : Family) (more rest : List Family) → owed net lists more < owed_for net lists a → owed net lists (more ++ rest) < owed net lists (a ∷ rest)
   more_less a more rest less = omega (arith, less, sum_by-cons (owed_for net lists) a rest, sum_by-append (owed_for net lists) more rest)
 
-  module _ (allowed : ℕ → ℕ → Type 0) (live after : Open) where
+  module _ (allowed : ℕ → ℕ → Type 0) (live after : OpenBranch) where
     pub drop_leads : (j : ℕ) (v : JointValue) (side : ℕ) → LeadsOn net lists allowed (family_of live.table) (Drop j v side)
         → family_of after.table ≡ without (family_of live.table) j v → still_open after ≡ still_open live → LeadsTo net lists allowed (open_in live) (open_in after) (Drop j v side)
     drop_leads j v side leads gone rest =

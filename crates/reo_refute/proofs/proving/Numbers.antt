@@ -1,6 +1,6 @@
 -- The numbers of a line that leads on.
 use Rattle.std.proofs.Common.{◌≡◌, ℕ, ◌<◌, ◌^◌, List, length, get_or, true, refl, arith}
-use Rattle.reo_values.proofs.Naturals.{lt_true, true_lt}
+use Rattle.std.proofs.lemmas.Bool.{lt-ltb, ltb-true}
 use Rattle.reo_net_base.specs.Net.{Net}
 use Rattle.reo_net_base.specs.Sides.{side_count}
 use Rattle.reo_net_base.specs.Wired.{IsWired}
@@ -21,14 +21,14 @@ use Rattle.reo_refute.specs.next.Next.{LeadsOn}
 use Rattle.reo_refute.specs.proving.Making.{AreFew}
 
 pub part_of : (lists : Lists) (table : List LiveAt) → AreLive lists table → IsPartOf (family_of table) (all_live lists)
-part_of lists table are j (Flow n) h = lt_true n (length (items_at lists j)) (omega (arith, flag_in (get_or table j none_gone).flows n h, are.flags j))
+part_of lists table are j (Flow n) h = lt-ltb n (length (items_at lists j)) (omega (arith, flag_in (get_or table j none_gone).flows n h, are.flags j))
 part_of lists table are j RG h = refl
 part_of lists table are j GR h = refl
 part_of lists table are j GG h = refl
 part_of lists table are j Jam h = refl
 
 pub value_numbered : (lists : Lists) → AreFew lists → (j : ℕ) (v : JointValue) → all_live lists j v ≡ true → IsValueNumbered v
-value_numbered lists few j (Flow n) h = omega (arith, true_lt n (length (items_at lists j)) h, few j)
+value_numbered lists few j (Flow n) h = omega (arith, ltb-true n (length (items_at lists j)) h, few j)
 value_numbered lists few j RG h = tt
 value_numbered lists few j GR h = tt
 value_numbered lists few j GG h = tt

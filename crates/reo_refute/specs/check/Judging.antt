@@ -12,8 +12,8 @@ use Rattle.reo_refute_base.specs.Logs.{IsBranch, AreParts}
 use Rattle.reo_refute_base.specs.Fronts.{ArePartsFront}
 use Rattle.reo_refute_base.specs.Steps.{IsStep, AreSteps}
 use Rattle.reo_refute_base.specs.Texts.{IsNumbered, line_text, log_text}
-use Rattle.reo_refute_live.specs.declared.branches.Open.{Open}
-use Rattle.reo_refute_live.specs.Open.{open_in}
+use Rattle.reo_refute_live.specs.declared.branches.OpenBranch.{OpenBranch}
+use Rattle.reo_refute_live.specs.OpenBranch.{open_in}
 use Rattle.reo_refute_base.specs.declared.faults.fault.ProofFault.{ProofFault}
 use Rattle.reo_refute_base.specs.declared.faults.fault.ProofFault.TheVariants.{Colouring as NoColouring, Wide as TooWide, Line as WrongLine, NoMemory as OutOfMemory}
 use Rattle.reo_refute_base.specs.faults.Faults.{HasColouring, AreNoColouring, IsProof, IsProofFault}
@@ -36,7 +36,7 @@ pub record IsStepRead (net : Net) (lists : Lists) (allowed : ℕ → ℕ → Typ
   pub step : IsStep net lists allowed before line after
 
 -- One line of a branch was taken, or none that stands there goes on.
-abbrev pub IsStepTaken : Net → Lists → (ℕ → ℕ → Type 0) → Open → Open → Lines → Lines
+abbrev pub IsStepTaken : Net → Lists → (ℕ → ℕ → Type 0) → OpenBranch → OpenBranch → Lines → Lines
     → Result Bool LogStop → Type 0
 IsStepTaken net lists allowed before after old new (Ok more) =
     IsStepRead net lists allowed (open_in before) (cond more (open_in after) []) old new

@@ -8,7 +8,7 @@ use crate::check::colouring::check_rows;
 use crate::check::lines::Lines;
 use crate::check::parts::check_parts;
 use crate::check::stop::LogStop;
-use crate::round::Round;
+use crate::footing::Footing;
 use reo_net_base::Primitive;
 use reo_net_circuit::{Circuit, ends_of};
 use reo_refute_base::{ProofFault, items_are_listed, right_logs_refute};
@@ -49,7 +49,7 @@ fn judge<P: Primitive>(
             let tables = tables_of(alloc, circuit)?;
             let places = key_places(alloc, circuit)?;
             let mut lines = Lines::new(log);
-            let round = Round {
+            let round = Footing {
                 alloc,
                 circuit,
                 turn,

@@ -5,12 +5,12 @@ ghost use Rattle.reo_joint_values.specs.Values.{AtSide};
 ghost use Rattle.reo_refute_base.specs.Logs.{MayGo};
 ghost use Rattle.reo_refute_live.specs.Judged.{IsJudged, allowed_in};
 ghost use Rattle.reo_refute_live.specs.support.Families.{family_of};
-ghost use Rattle.reo_refute_live.specs.Open.{IsOpen};
+ghost use Rattle.reo_refute_live.specs.OpenBranch.{IsOpen};
 
 use reo_joint_values::JointValue;
 use reo_net_base::Primitive;
 use reo_net_circuit::Circuit;
-use reo_refute_live::{Judged, Open, has_support};
+use reo_refute_live::{Judged, OpenBranch, has_support};
 use reo_values::NoMemory;
 
 /// Whether a side is at a joint.
@@ -27,7 +27,7 @@ fn is_at_side<P: Primitive>(circuit: &Circuit<P>, joint: usize, side: usize) -> 
 /// a place. `NoMemory` is out of memory.
 pub(crate) fn lacks_support<P: Primitive>(
     judged: &Judged<'_, P>,
-    live: &Open,
+    live: &OpenBranch,
     joint: usize,
     value: JointValue,
     side: usize,
@@ -50,7 +50,7 @@ pub(crate) fn lacks_support<P: Primitive>(
 /// it has no support there. The numbers may be any. `NoMemory` is out of memory.
 pub(crate) fn may_go<P: Primitive>(
     judged: &Judged<'_, P>,
-    live: &Open,
+    live: &OpenBranch,
     joint: usize,
     value: JointValue,
     side: usize,

@@ -3,7 +3,7 @@ ghost use Rattle.reo_refute_base.specs.declared.line.LogLine.TheVariants.{At as 
 ghost use Rattle.std.specs.Prelude.{◌≢◌, true, false, ◌≡◌, ◌<◌, ℕ, List, OnOk, length};
 ghost use Rattle.reo_net_base.specs.Net.{net_of};
 ghost use Rattle.reo_refute_live.specs.Judged.{IsJudged, allowed_in};
-ghost use Rattle.reo_refute_live.specs.Open.{IsClosed};
+ghost use Rattle.reo_refute_live.specs.OpenBranch.{IsClosed};
 ghost use Rattle.reo_refute.specs.check.Judging.{IsPartTaken};
 ghost use Rattle.reo_refute.specs.check.Reading.{IsShort, IsAtTaken};
 
@@ -12,7 +12,7 @@ use crate::check::step::step;
 use crate::check::stop::LogStop;
 use reo_net_base::Primitive;
 use reo_refute_base::LogLine;
-use reo_refute_live::{Judged, Open};
+use reo_refute_live::{Judged, OpenBranch};
 use std::alloc::Global;
 
 /// Whether a line begins the part of a place.
@@ -50,7 +50,7 @@ pub(crate) fn take_at(lines: &mut Lines, number: usize) -> Result<(), LogStop>
 pub(crate) fn check_part<P: Primitive>(
     alloc: Global,
     judged: &Judged<'_, P>,
-    live: &mut Open,
+    live: &mut OpenBranch,
     lines: &mut Lines,
     rows: &mut Vec<u8>,
 ) -> Result<(), LogStop>

@@ -3,29 +3,29 @@ ghost use Rattle.std.specs.Prelude.{◌≡◌, ◌<◌, ◌+◌, ℕ, List, OnOk
 ghost use Rattle.reo_net_base.specs.Net.{net_of};
 ghost use Rattle.reo_refute_base.specs.Places.{IsLive};
 ghost use Rattle.reo_refute_parts.specs.places.AllowedRows.{AreAgreeing, AreAllowedRows};
-ghost use Rattle.reo_refute_live.specs.Open.{IsClosed};
+ghost use Rattle.reo_refute_live.specs.OpenBranch.{IsClosed};
 ghost use Rattle.reo_refute.specs.check.Judging.{IsPlaceTaken, ArePartsTaken};
 ghost use Rattle.reo_refute.specs.check.Reading.{IsShort};
-ghost use Rattle.reo_refute.specs.Round.{IsRound};
+ghost use Rattle.reo_refute.specs.Footing.{IsFooting};
 
 use crate::check::lines::Lines;
 use crate::check::part::{check_part, take_at};
 use crate::check::stop::LogStop;
-use crate::round::Round;
+use crate::footing::Footing;
 use reo_net_base::Primitive;
-use reo_refute_live::{Judged, Open};
+use reo_refute_live::{Judged, OpenBranch};
 use reo_refute_parts::AllowedRows;
 
 /// Takes the part of a live place: the line that begins it, and its branch.
 fn check_live<P: Primitive>(
-    round: &Round<'_, P>,
+    round: &Footing<'_, P>,
     number: usize,
     allowed: &AllowedRows,
-    live: &mut Open,
+    live: &mut OpenBranch,
     lines: &mut Lines,
     rows: &mut Vec<u8>,
 ) -> Result<(), LogStop>
-    requires round { IsRound (net_of P.behaviour round.now.circuit.now) round.now }
+    requires round { IsFooting (net_of P.behaviour round.now.circuit.now) round.now }
     requires allowed { AreAllowedRows (net_of P.behaviour round.now.circuit.now) round.now.turn
         round.now.given.now number allowed.now }
     requires closed { IsClosed round.now.lists.now live.old }
@@ -56,14 +56,14 @@ fn check_live<P: Primitive>(
 
 /// Takes the part of a place, if it is live, and goes past the place.
 fn check_place<P: Primitive>(
-    round: &Round<'_, P>,
+    round: &Footing<'_, P>,
     number: usize,
     allowed: &mut AllowedRows,
-    live: &mut Open,
+    live: &mut OpenBranch,
     lines: &mut Lines,
     rows: &mut Vec<u8>,
 ) -> Result<(), LogStop>
-    requires round { IsRound (net_of P.behaviour round.now.circuit.now) round.now }
+    requires round { IsFooting (net_of P.behaviour round.now.circuit.now) round.now }
     requires number { number < length round.now.places.now }
     requires agreeing { AreAgreeing (net_of P.behaviour round.now.circuit.now) round.now.turn
         round.now.given.now number allowed.old.agreeing }
@@ -87,16 +87,16 @@ fn check_place<P: Primitive>(
 
 /// Takes all parts, behind which no line is left.
 pub(crate) fn check_parts<P: Primitive>(
-    round: &Round<'_, P>,
+    round: &Footing<'_, P>,
     lines: &mut Lines,
 ) -> Result<(), LogStop>
-    requires round { IsRound (net_of P.behaviour round.now.circuit.now) round.now }
+    requires round { IsFooting (net_of P.behaviour round.now.circuit.now) round.now }
     requires short { IsShort lines.old }
     ensures { let net = net_of P.behaviour round.now.circuit.now in
         ArePartsTaken net round.now.turn round.now.given.now round.now.lists.now lines.old result }
 {
     let mut allowed = AllowedRows::new(round.alloc, round.circuit)?;
-    let mut live = Open::new(round.alloc, round.lists)?;
+    let mut live = OpenBranch::new(round.alloc, round.lists)?;
     let mut rows = Vec::new(round.alloc);
     for number in 0..round.places.len() {
         match check_place(round, number, &mut allowed, &mut live, lines, &mut rows) {

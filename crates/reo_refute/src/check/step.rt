@@ -2,7 +2,7 @@
 ghost use Rattle.std.specs.Prelude.{◌≡◌, ◌<◌, ℕ, List, IfOk, IsTrue, false, length};
 ghost use Rattle.reo_net_base.specs.Net.{net_of};
 ghost use Rattle.reo_refute_live.specs.Judged.{IsJudged, allowed_in};
-ghost use Rattle.reo_refute_live.specs.Open.{IsOpen, IsClosed};
+ghost use Rattle.reo_refute_live.specs.OpenBranch.{IsOpen, IsClosed};
 ghost use Rattle.reo_refute.specs.check.Judging.{IsStepTaken};
 ghost use Rattle.reo_refute.specs.check.Reading.{IsShort};
 
@@ -11,14 +11,14 @@ use crate::check::lines::Lines;
 use crate::check::stop::LogStop;
 use reo_net_base::Primitive;
 use reo_refute_base::LogLine;
-use reo_refute_live::{Judged, Open};
+use reo_refute_live::{Judged, OpenBranch};
 use std::alloc::Global;
 
 /// Takes one line of a branch: whether a branch is open behind it.
 pub(crate) fn step<P: Primitive>(
     alloc: Global,
     judged: &Judged<'_, P>,
-    live: &mut Open,
+    live: &mut OpenBranch,
     lines: &mut Lines,
     rows: &mut Vec<u8>,
 ) -> Result<bool, LogStop>

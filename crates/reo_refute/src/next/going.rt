@@ -7,18 +7,18 @@ ghost use Rattle.reo_refute_base.specs.Live.{HasSupport};
 ghost use Rattle.reo_refute_base.specs.Logs.{MayGo};
 ghost use Rattle.reo_refute_live.specs.Judged.{IsJudged, allowed_in};
 ghost use Rattle.reo_refute_live.specs.support.Families.{family_of};
-ghost use Rattle.reo_refute_live.specs.Open.{IsOpen};
+ghost use Rattle.reo_refute_live.specs.OpenBranch.{IsOpen};
 
 use reo_joint_values::JointValue;
 use reo_net_base::Primitive;
-use reo_refute_live::{Judged, Open, has_support};
+use reo_refute_live::{Judged, OpenBranch, has_support};
 use reo_values::NoMemory;
 
 /// Whether a live value at a joint has support at a side of it, by the rows that are allowed at a
 /// place. `NoMemory` is out of memory.
 fn is_supported<P: Primitive>(
     judged: &Judged<'_, P>,
-    live: &Open,
+    live: &OpenBranch,
     joint: usize,
     value: JointValue,
     side: usize,
@@ -44,7 +44,7 @@ fn is_supported<P: Primitive>(
 /// allowed at a place. `NoMemory` is out of memory.
 pub(crate) fn may_go<P: Primitive>(
     judged: &Judged<'_, P>,
-    live: &Open,
+    live: &OpenBranch,
     joint: usize,
     value: JointValue,
     side: usize,

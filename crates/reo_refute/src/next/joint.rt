@@ -6,7 +6,7 @@ ghost use Rattle.reo_refute_base.specs.Live.{live_at};
 ghost use Rattle.reo_refute_base.specs.Logs.{MayGo};
 ghost use Rattle.reo_refute_live.specs.Judged.{IsJudged, allowed_in};
 ghost use Rattle.reo_refute_live.specs.support.Families.{family_of};
-ghost use Rattle.reo_refute_live.specs.Open.{IsOpen};
+ghost use Rattle.reo_refute_live.specs.OpenBranch.{IsOpen};
 ghost use Rattle.reo_refute.specs.next.Next.{AreSupported, IsKept, LeadsOn};
 
 use crate::next::going::may_go;
@@ -14,14 +14,14 @@ use crate::next::values::{value_at, value_count};
 use reo_joint_values::JointValue;
 use reo_net_base::Primitive;
 use reo_refute_base::LogLine;
-use reo_refute_live::{Judged, Open};
+use reo_refute_live::{Judged, OpenBranch};
 use reo_values::NoMemory;
 
 /// The first value of a joint, of those from a place on, that may go at a side of it, if there is
 /// one. `NoMemory` is out of memory.
 fn goes_at<P: Primitive>(
     judged: &Judged<'_, P>,
-    live: &Open,
+    live: &OpenBranch,
     joint: usize,
     side: usize,
     from: usize,
@@ -47,11 +47,11 @@ fn goes_at<P: Primitive>(
     Ok(None)
 }
 
-/// The line of the first value of a joint, of those from a place on, that may go at a side of it, if
-/// there is one. `NoMemory` is out of memory.
+/// The line of the first value of a joint, of those from a place on, that may go at a side of it,
+/// if there is one. `NoMemory` is out of memory.
 pub(crate) fn line_at_side<P: Primitive>(
     judged: &Judged<'_, P>,
-    live: &Open,
+    live: &OpenBranch,
     joint: usize,
     side: usize,
     from: usize,
@@ -77,7 +77,7 @@ pub(crate) fn line_at_side<P: Primitive>(
 /// of memory.
 pub(crate) fn line_at<P: Primitive>(
     judged: &Judged<'_, P>,
-    live: &Open,
+    live: &OpenBranch,
     joint: usize,
     rows: &mut Vec<u8>,
 ) -> Result<Option<LogLine>, NoMemory>

@@ -5,16 +5,16 @@ ghost use Rattle.reo_joint_values.specs.Values.{value_eq};
 ghost use Rattle.reo_refute_base.specs.Live.{live_at};
 ghost use Rattle.reo_refute_base.specs.measure.Owed.{AreTwo};
 ghost use Rattle.reo_refute_live.specs.support.Families.{family_of};
-ghost use Rattle.reo_refute_live.specs.Open.{IsOpen, AreSmall};
+ghost use Rattle.reo_refute_live.specs.OpenBranch.{IsOpen, AreSmall};
 ghost use Rattle.reo_refute.specs.next.Next.{HasOne};
 
 use crate::next::values::{value_at, value_count};
 use reo_joint_values::JointValue;
-use reo_refute_live::Open;
+use reo_refute_live::OpenBranch;
 use reo_values::{List, Value};
 
 /// The first value that is live at a joint, if there is one.
-fn first_live(lists: &[List<Value>], live: &Open, joint: usize) -> Option<JointValue>
+fn first_live(lists: &[List<Value>], live: &OpenBranch, joint: usize) -> Option<JointValue>
     requires open { IsOpen lists.now live.now }
     requires small { AreSmall lists.now }
     requires joint { joint < length lists.now }
@@ -33,7 +33,7 @@ fn first_live(lists: &[List<Value>], live: &Open, joint: usize) -> Option<JointV
 /// Whether a value is live at a joint, and is another than this.
 fn is_other(
     lists: &[List<Value>],
-    live: &Open,
+    live: &OpenBranch,
     joint: usize,
     value: JointValue,
     first: JointValue,
@@ -46,7 +46,7 @@ fn is_other(
 }
 
 /// Whether another value than this is live at a joint.
-fn has_other(lists: &[List<Value>], live: &Open, joint: usize, first: JointValue) -> bool
+fn has_other(lists: &[List<Value>], live: &OpenBranch, joint: usize, first: JointValue) -> bool
     requires open { IsOpen lists.now live.now }
     requires small { AreSmall lists.now }
     requires joint { joint < length lists.now }
@@ -64,7 +64,7 @@ fn has_other(lists: &[List<Value>], live: &Open, joint: usize, first: JointValue
 }
 
 /// Whether two values are live at a joint.
-pub(crate) fn has_two(lists: &[List<Value>], live: &Open, joint: usize) -> bool
+pub(crate) fn has_two(lists: &[List<Value>], live: &OpenBranch, joint: usize) -> bool
     requires open { IsOpen lists.now live.now }
     requires small { AreSmall lists.now }
     requires joint { joint < length lists.now }

@@ -5,21 +5,21 @@ ghost use Rattle.reo_refute_base.specs.Live.{live_at};
 ghost use Rattle.reo_refute_base.specs.measure.Owed.{AreTwo};
 ghost use Rattle.reo_refute_live.specs.Judged.{IsJudged, allowed_in};
 ghost use Rattle.reo_refute_live.specs.support.Families.{family_of};
-ghost use Rattle.reo_refute_live.specs.Open.{IsOpen, AreSmall};
+ghost use Rattle.reo_refute_live.specs.OpenBranch.{IsOpen, AreSmall};
 ghost use Rattle.reo_refute.specs.next.Next.{HasOne, IsKept, IsNextLine, LeadsOn};
 
 use crate::next::joint::line_at;
 use crate::next::looking::has_two;
 use reo_net_base::Primitive;
 use reo_refute_base::LogLine;
-use reo_refute_live::{Judged, Open};
+use reo_refute_live::{Judged, OpenBranch};
 use reo_values::{List, NoMemory, Value};
 
 /// The line of the first joint, of so many, at which no value is live, or one may go, if there is
 /// such a joint.
 fn kept_or_line<P: Primitive>(
     judged: &Judged<'_, P>,
-    live: &Open,
+    live: &OpenBranch,
     to: usize,
     rows: &mut Vec<u8>,
 ) -> Result<Option<LogLine>, NoMemory>
@@ -43,7 +43,7 @@ fn kept_or_line<P: Primitive>(
 }
 
 /// The first joint at which two values are live, if there is one.
-fn first_double(lists: &[List<Value>], live: &Open) -> Option<usize>
+fn first_double(lists: &[List<Value>], live: &OpenBranch) -> Option<usize>
     requires open { IsOpen lists.now live.now }
     requires small { AreSmall lists.now }
     ensures { let family = family_of live.now.table in MatchOption result
@@ -65,7 +65,7 @@ fn first_double(lists: &[List<Value>], live: &Open) -> Option<usize>
 /// `NoMemory` is out of memory.
 pub(crate) fn next_line<P: Primitive>(
     judged: &Judged<'_, P>,
-    live: &Open,
+    live: &OpenBranch,
     rows: &mut Vec<u8>,
 ) -> Result<Option<LogLine>, NoMemory>
     requires judged { IsJudged (net_of P.behaviour judged.now.circuit.now) judged.now }

@@ -2,7 +2,7 @@
 ghost use Rattle.std.specs.Prelude.{◌≡◌, ◌<◌, ◌∷◌, [], length, slice_index_or};
 ghost use Rattle.reo_joint_values.specs.declared.value.JointValue.TheVariants.{RG, GR, GG, Jam};
 ghost use Rattle.reo_refute_base.specs.Live.{values_of};
-ghost use Rattle.reo_refute_live.specs.Open.{AreSmall};
+ghost use Rattle.reo_refute_live.specs.OpenBranch.{AreSmall};
 
 use reo_joint_values::JointValue;
 use reo_refute_base::LogLine;

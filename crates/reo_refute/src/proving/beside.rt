@@ -7,15 +7,15 @@ ghost use Rattle.reo_refute_base.specs.Live.{live_at};
 ghost use Rattle.reo_refute_base.specs.measure.Owed.{AreTwo};
 ghost use Rattle.reo_refute_live.specs.Judged.{IsJudged, allowed_in};
 ghost use Rattle.reo_refute_live.specs.support.Families.{family_of};
-ghost use Rattle.reo_refute_live.specs.Open.{IsOpen, AreSmall};
+ghost use Rattle.reo_refute_live.specs.OpenBranch.{IsOpen, AreSmall};
 ghost use Rattle.reo_refute.specs.next.Next.{IsNextLine, MayLead};
 
 use crate::next::{after, has_two, line_at_side, next_line};
-use crate::proving::outward::{Look, Outward};
+use crate::proving::outward::{Glance, Outward};
 use reo_net_base::Primitive;
 use reo_net_circuit::Circuit;
 use reo_refute_base::LogLine;
-use reo_refute_live::{Column, Judged, Open};
+use reo_refute_live::{Column, Judged, OpenBranch};
 use reo_side_tables::{giver_side, taker_side};
 use reo_values::{List, NoMemory, Value};
 
@@ -35,7 +35,7 @@ fn side_at<P: Primitive>(circuit: &Circuit<P>, joint: usize, gives: bool) -> usi
 /// taker's side of it, if there is one.
 fn line_from<P: Primitive>(
     judged: &Judged<'_, P>,
-    live: &Open,
+    live: &OpenBranch,
     joint: usize,
     gives: bool,
     from: usize,
@@ -84,9 +84,9 @@ fn counted(first: usize, number: usize, count: usize) -> usize
 /// The line of a value that may go at a side, if there is one where it is still to be looked at.
 fn line_beside<P: Primitive>(
     judged: &Judged<'_, P>,
-    live: &Open,
+    live: &OpenBranch,
     outward: &mut Outward,
-    look: Look,
+    look: Glance,
     rows: &mut Vec<u8>,
 ) -> Result<Option<LogLine>, NoMemory>
     requires judged { IsJudged (net_of P.behaviour judged.now.circuit.now) judged.now }
@@ -118,7 +118,7 @@ fn line_beside<P: Primitive>(
 /// The line of a value that may go at a side that waits, if there is one.
 fn line_outward<P: Primitive>(
     judged: &Judged<'_, P>,
-    live: &Open,
+    live: &OpenBranch,
     outward: &mut Outward,
     rows: &mut Vec<u8>,
 ) -> Result<Option<LogLine>, NoMemory>
@@ -141,7 +141,7 @@ fn line_outward<P: Primitive>(
 }
 
 /// The joint at which a value went last, if no other is live there.
-fn emptied(lists: &[List<Value>], live: &Open, outward: &Outward) -> Option<usize>
+fn emptied(lists: &[List<Value>], live: &OpenBranch, outward: &Outward) -> Option<usize>
     requires { IsOpen lists.now live.now }
     ensures { MatchOption result (Unit {0}) (λ j. (j < length lists.now)
         × (live_at lists.now (family_of live.now.table) j ≡ [])) }
@@ -159,7 +159,7 @@ fn emptied(lists: &[List<Value>], live: &Open, outward: &Outward) -> Option<usiz
 }
 
 /// The first joint that closes a loop and at which two values are live, if there is one.
-fn first_loop(lists: &[List<Value>], live: &Open, loops: &[usize]) -> Option<usize>
+fn first_loop(lists: &[List<Value>], live: &OpenBranch, loops: &[usize]) -> Option<usize>
     requires open { IsOpen lists.now live.now }
     requires small { AreSmall lists.now }
     ensures { MatchOption result (Unit {0}) (λ j. (j < length lists.now)
@@ -178,7 +178,7 @@ fn first_loop(lists: &[List<Value>], live: &Open, loops: &[usize]) -> Option<usi
 /// there is one.
 pub(crate) fn line_near<P: Primitive>(
     judged: &Judged<'_, P>,
-    live: &Open,
+    live: &OpenBranch,
     outward: &mut Outward,
     rows: &mut Vec<u8>,
 ) -> Result<Option<LogLine>, NoMemory>

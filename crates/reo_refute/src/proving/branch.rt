@@ -1,9 +1,9 @@
-//! One branch of a log. Lines are found and noted until no branch is open; those that stay are judged
-//! as any log is, and written where they are a branch by themselves, and else all lines are.
+//! One branch of a log. Lines are found and noted until no branch is open; those that stay are
+//! judged as any log is, and written where they are a branch by themselves, and else all lines are.
 ghost use Rattle.std.specs.Prelude.{◌^◌, ◌≡◌, ◌≤◌, ◌<◌, ℕ, List, [], false, IfOk, OnOk, IsTrue, cond, length};
 ghost use Rattle.reo_net_base.specs.Net.{net_of};
 ghost use Rattle.reo_refute_live.specs.Judged.{IsJudged, allowed_in};
-ghost use Rattle.reo_refute_live.specs.Open.{open_in, IsOpen, IsClosed};
+ghost use Rattle.reo_refute_live.specs.OpenBranch.{open_in, IsOpen, IsClosed};
 ghost use Rattle.reo_refute.specs.proving.Making.{AreFew, NeverSettles, IsLineMade, IsBranchMade};
 
 use crate::check::{Lines, LogStop, check_part};
@@ -14,7 +14,7 @@ use crate::proving::outward::Outward;
 use crate::proving::scratch::Scratch;
 use reo_net_base::Primitive;
 use reo_refute_base::LogLine;
-use reo_refute_live::{Column, Judged, Open};
+use reo_refute_live::{Column, Judged, OpenBranch};
 use reo_refute_parts::put_line;
 use reo_values::{Bytes, List, NoMemory};
 use std::alloc::Global;
@@ -22,7 +22,7 @@ use std::alloc::Global;
 /// Notes a line that was found and followed, by where its text begins.
 fn note<P: Primitive>(
     judged: &Judged<'_, P>,
-    live: &Open,
+    live: &OpenBranch,
     line: LogLine,
     text: usize,
     draft: &mut Draft,
@@ -73,7 +73,8 @@ fn put_next<P: Primitive>(
     requires never { NeverSettles (net_of P.behaviour judged.now.circuit.now) judged.now.lists.now
         (allowed_in (net_of P.behaviour judged.now.circuit.now) judged.now) }
     requires open { IsOpen judged.now.lists.now scratch.old.live }
-    ensures open { IfOk result (λ more. IsTrue more → IsOpen judged.now.lists.now scratch.new.live) }
+    ensures open { IfOk result
+        (λ more. IsTrue more → IsOpen judged.now.lists.now scratch.new.live) }
     ensures closed { IfOk result
         (λ more. more ≡ false → IsClosed judged.now.lists.now scratch.new.live) }
     ensures made { let net = net_of P.behaviour judged.now.circuit.now in
@@ -138,7 +139,7 @@ fn put_whole<P: Primitive>(
 fn is_branch<P: Primitive>(
     alloc: Global,
     judged: &Judged<'_, P>,
-    live: &mut Open,
+    live: &mut OpenBranch,
     text: &[u8],
     rows: &mut Vec<u8>,
 ) -> Result<bool, NoMemory>
@@ -154,7 +155,7 @@ fn is_branch<P: Primitive>(
         Ok(()) => Ok(lines.left.is_done()),
         Err(LogStop::NoMemory) => Err(NoMemory),
         Err(_) => {
-            *live = Open::new(alloc, judged.lists)?;
+            *live = OpenBranch::new(alloc, judged.lists)?;
             Ok(false)
         }
     }

@@ -4,7 +4,7 @@ use crate::proving::needed::{Needed, reason_at};
 use crate::proving::reasons::{Reason, add_reasons};
 use reo_net_base::Primitive;
 use reo_refute_base::LogLine;
-use reo_refute_live::{Judged, Open};
+use reo_refute_live::{Judged, OpenBranch};
 use reo_values::{Bytes, List, NoMemory};
 use std::alloc::Global;
 
@@ -51,7 +51,7 @@ impl Draft {
     pub(crate) fn add<P: Primitive>(
         &mut self,
         judged: &Judged<'_, P>,
-        live: &Open,
+        live: &OpenBranch,
         line: LogLine,
         text: usize,
         branches: usize,

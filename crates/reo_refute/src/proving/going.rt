@@ -3,13 +3,13 @@ ghost use Rattle.std.specs.Prelude.{◌≡◌, ◌<◌, ℕ, List, [], false, If
 ghost use Rattle.reo_net_base.specs.Net.{net_of};
 ghost use Rattle.reo_refute_live.specs.Judged.{IsJudged, allowed_in};
 ghost use Rattle.reo_refute_live.specs.support.Families.{family_of};
-ghost use Rattle.reo_refute_live.specs.Open.{open_in, IsOpen, IsClosed};
+ghost use Rattle.reo_refute_live.specs.OpenBranch.{open_in, IsOpen, IsClosed};
 ghost use Rattle.reo_refute.specs.next.Next.{LeadsOn};
 ghost use Rattle.reo_refute.specs.proving.Making.{AreFew, LeadsTo};
 
 use reo_net_base::Primitive;
 use reo_refute_base::LogLine;
-use reo_refute_live::{Judged, Open};
+use reo_refute_live::{Judged, OpenBranch};
 use reo_values::NoMemory;
 use std::alloc::Global;
 
@@ -18,7 +18,7 @@ use std::alloc::Global;
 pub(crate) fn go_on<P: Primitive>(
     alloc: Global,
     judged: &Judged<'_, P>,
-    live: &mut Open,
+    live: &mut OpenBranch,
     line: LogLine,
 ) -> Result<bool, NoMemory>
     requires judged { IsJudged (net_of P.behaviour judged.now.circuit.now) judged.now }

@@ -5,8 +5,8 @@ ghost use Rattle.reo_refute_base.specs.Wide.{IsWide};
 ghost use Rattle.reo_refute_base.specs.faults.Faults.{IsProof};
 ghost use Rattle.reo_refute.specs.check.Judging.{IsFirstRows};
 
+use crate::footing::Footing;
 use crate::proving::parts::put_parts;
-use crate::round::Round;
 use reo_net_base::Primitive;
 use reo_net_circuit::{Circuit, ends_of};
 use reo_refute_base::items_are_listed;
@@ -37,7 +37,7 @@ pub fn prove<P: Primitive>(
         Some(lists) => {
             let tables = tables_of(alloc, circuit)?;
             let places = key_places(alloc, circuit)?;
-            let round = Round {
+            let round = Footing {
                 alloc,
                 circuit,
                 turn,

@@ -52,13 +52,13 @@ fn uncross_at(columns: &[Column], crossed: &mut List<bool>) {
 
 /// A side that waits, and the joint at which it is looked at first.
 #[derive(Clone, Copy)]
-struct Waiting {
+struct Queued {
     side: usize,
     joint: usize,
 }
 
 /// What stands in a list at a place, if something does.
-fn waiting_at(list: &List<Waiting>, index: usize) -> Option<Waiting> {
+fn waiting_at(list: &List<Queued>, index: usize) -> Option<Queued> {
     match list.get(index) {
         Some(waiting) => Some(*waiting),
         None => None,
@@ -68,7 +68,7 @@ fn waiting_at(list: &List<Waiting>, index: usize) -> Option<Waiting> {
 /// Where a side is looked at: at which joint first, how many of its ends were looked at since, and
 /// from which of the values at the next.
 #[derive(Clone, Copy)]
-pub(crate) struct Look {
+pub(crate) struct Glance {
     pub(crate) side: usize,
     pub(crate) joint: usize,
     pub(crate) ends: usize,
@@ -81,7 +81,7 @@ pub(crate) struct Look {
 #[derive(Drop)]
 pub(crate) struct Outward {
     /// The sides that came to wait, in their order.
-    order: List<Waiting>,
+    order: List<Queued>,
     /// How many of them do not wait any more.
     passed: usize,
     /// For each side whether it waits.
@@ -147,7 +147,7 @@ impl Outward {
         if is_set(&self.waits, side) {
             return Ok(());
         }
-        self.order.push(Waiting { side, joint })?;
+        self.order.push(Queued { side, joint })?;
         put(&mut self.waits, side, true);
         Ok(())
     }
@@ -172,10 +172,10 @@ impl Outward {
     }
 
     /// Where to look next, if some side waits.
-    pub(crate) fn look(&self) -> Option<Look> {
+    pub(crate) fn look(&self) -> Option<Glance> {
         match self.order.get(self.passed) {
             None => None,
-            Some(waiting) => Some(Look {
+            Some(waiting) => Some(Glance {
                 side: waiting.side,
                 joint: waiting.joint,
                 ends: self.ends,

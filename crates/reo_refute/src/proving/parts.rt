@@ -3,14 +3,14 @@ ghost use Rattle.std.specs.Prelude.{◌≡◌, ◌≤◌, ◌<◌, ◌^◌, ◌+
 ghost use Rattle.reo_net_base.specs.Net.{net_of};
 ghost use Rattle.reo_net_base.specs.First.{positions};
 ghost use Rattle.reo_refute_base.specs.Places.{IsLive, NoneBefore};
-ghost use Rattle.reo_refute_live.specs.Open.{IsClosed};
+ghost use Rattle.reo_refute_live.specs.OpenBranch.{IsClosed};
 ghost use Rattle.reo_refute_parts.specs.places.AllowedRows.{AreAgreeing, AreAllowedRows};
 ghost use Rattle.reo_refute.specs.proving.Making.{AreFew, ArePartsMade};
-ghost use Rattle.reo_refute.specs.Round.{IsRound};
+ghost use Rattle.reo_refute.specs.Footing.{IsFooting};
 
+use crate::footing::Footing;
 use crate::proving::branch::put_branch;
 use crate::proving::scratch::Scratch;
-use crate::round::Round;
 use reo_joint_values::choices_are_assignments;
 use reo_net_base::Primitive;
 use reo_net_laws::rows_differ;
@@ -21,13 +21,13 @@ use reo_values::{Bytes, NoMemory};
 
 /// Writes the part of a live place: the line that begins it, and its branch.
 fn put_live<P: Primitive>(
-    round: &Round<'_, P>,
+    round: &Footing<'_, P>,
     number: usize,
     allowed: &AllowedRows,
     scratch: &mut Scratch,
     out: &mut Bytes,
 ) -> Result<(), NoMemory>
-    requires round { IsRound (net_of P.behaviour round.now.circuit.now) round.now }
+    requires round { IsFooting (net_of P.behaviour round.now.circuit.now) round.now }
     requires first { NoneBefore (net_of P.behaviour round.now.circuit.now) round.now.turn
         round.now.given.now }
     requires few { AreFew round.now.lists.now }
@@ -63,13 +63,13 @@ fn put_live<P: Primitive>(
 
 /// Writes the part of a place, if it is live, and goes past the place.
 fn put_place<P: Primitive>(
-    round: &Round<'_, P>,
+    round: &Footing<'_, P>,
     number: usize,
     allowed: &mut AllowedRows,
     scratch: &mut Scratch,
     out: &mut Bytes,
 ) -> Result<(), NoMemory>
-    requires round { IsRound (net_of P.behaviour round.now.circuit.now) round.now }
+    requires round { IsFooting (net_of P.behaviour round.now.circuit.now) round.now }
     requires number { number < length round.now.places.now }
     requires first { NoneBefore (net_of P.behaviour round.now.circuit.now) round.now.turn
         round.now.given.now }
@@ -96,8 +96,11 @@ fn put_place<P: Primitive>(
 }
 
 /// Writes the parts of all live places.
-pub(crate) fn put_parts<P: Primitive>(round: &Round<'_, P>, out: &mut Bytes) -> Result<(), NoMemory>
-    requires round { IsRound (net_of P.behaviour round.now.circuit.now) round.now }
+pub(crate) fn put_parts<P: Primitive>(
+    round: &Footing<'_, P>,
+    out: &mut Bytes,
+) -> Result<(), NoMemory>
+    requires round { IsFooting (net_of P.behaviour round.now.circuit.now) round.now }
     requires first { NoneBefore (net_of P.behaviour round.now.circuit.now) round.now.turn
         round.now.given.now }
     requires few { AreFew round.now.lists.now }

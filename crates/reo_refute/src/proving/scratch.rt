@@ -1,10 +1,10 @@
 //! What is used again from part to part of a log.
 ghost use Rattle.std.specs.Prelude.{IfOk};
-ghost use Rattle.reo_refute_live.specs.Open.{IsClosed};
+ghost use Rattle.reo_refute_live.specs.OpenBranch.{IsClosed};
 
 use crate::proving::draft::Draft;
 use crate::proving::outward::Outward;
-use reo_refute_live::Open;
+use reo_refute_live::OpenBranch;
 use reo_values::{Bytes, List, NoMemory, Value};
 use std::alloc::Global;
 
@@ -12,7 +12,7 @@ use std::alloc::Global;
 #[derive(Drop)]
 pub(crate) struct Scratch {
     /// What is live in the open branches.
-    pub(crate) live: Open,
+    pub(crate) live: OpenBranch,
     /// The sides that are still to be looked at.
     pub(crate) outward: Outward,
     /// The lines as they are found.
@@ -34,7 +34,7 @@ impl Scratch {
     ) -> Result<Scratch, NoMemory>
         ensures { IfOk result (λ scratch. IsClosed lists.now scratch.live) }
     {
-        let live = Open::new(alloc, lists)?;
+        let live = OpenBranch::new(alloc, lists)?;
         let outward = Outward::new(alloc, sides, lists.len())?;
         let draft = Draft::new(alloc, lists.len())?;
         Ok(Scratch {

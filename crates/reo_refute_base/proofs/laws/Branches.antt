@@ -1,9 +1,9 @@
 -- A branch leaves no choice of live values that allowed rows fit.
 use Rattle.std.proofs.Common.{◌≡◌, inl, inr, ℕ, suc, ◌<◌, ◌==◌, ◌&&◌, not, List, [], ◌∷◌, Bool, true, false, cond, length, get_or, filter, Contains, ap, sym, ◌∙◌, subst, arith}
 use Rattle.std.proofs.lemmas.List.{get_or_default}
-use Rattle.std.proofs.lemmas.Bool.{cases_Bool}
+use Rattle.std.proofs.lemmas.Bool.{cases_Bool, and_parts}
 use Rattle.std.proofs.lemmas.Bool.Decides.{nat_tests}
-use Rattle.reo_values.proofs.Truths.{and_both, and_or_left, and_or_right}
+use Rattle.reo_values.proofs.Truths.{and_or_left, and_or_right}
 use Rattle.reo_net_base.specs.Net.{Net}
 use Rattle.reo_net_base.specs.Sides.{side_count}
 use Rattle.reo_net_base.specs.Wired.{IsWired}
@@ -12,7 +12,7 @@ use Rattle.reo_joint_values.specs.declared.value.JointValue.{JointValue}
 use Rattle.reo_joint_values.specs.declared.value.JointValue.TheVariants.{Jam}
 use Rattle.reo_joint_values.specs.Values.{Choice, Family, value_eq}
 use Rattle.reo_joint_values.specs.Fitting.{Fits}
-use Rattle.reo_joint_values.proofs.Narrowing.{value_same, same_value}
+use Rattle.reo_refute_base.proofs.Narrowing.{value_same, same_value}
 use Rattle.reo_joint_values.proofs.Inside.{side_below}
 use Rattle.reo_refute_base.specs.declared.line.LogLine.{LogLine}
 use Rattle.reo_refute_base.specs.Items.{Lists, numbered}
@@ -69,7 +69,7 @@ module _ (net : Net) (wired : IsWired net) (lists : Lists) (allowed : ℕ → �
   stay live j v side may are i lt =
       elim (cases_Bool ((i == j) && value_eq (choice i) v)) [
         | inl holds ↦
-            let parts = and_both (i == j) (value_eq (choice i) v) holds in
+            let parts = and_parts (i == j) (value_eq (choice i) v) holds in
             let here : i ≡ j = eq_from i j parts.0 in
             let chosen : choice j ≡ v = ap choice (sym here) ∙ same_value (choice i) v parts.1 in
             let below : side < side_count net = side_below net wired j side may.in_range may.at_side in

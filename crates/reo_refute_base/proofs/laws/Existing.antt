@@ -2,9 +2,8 @@
 use Rattle.std.proofs.Common.{◌≡◌, ◌⊎◌, inl, inr, ℕ, zero, suc, ◌+◌, ◌<◌, ◌≤◌, List, [], ◌∷◌, ◌++◌, true, Option, length, get_or, Contains, refl, ap, sym, ◌∙◌, subst, arith}
 use Rattle.std.proofs.lemmas.List.{get_or_default}
 use Rattle.std.proofs.lemmas.List.FromFn.{get_or-map-range_with_len}
-use Rattle.std.proofs.lemmas.Bool.{cases_eq}
+use Rattle.std.proofs.lemmas.Bool.{cases_eq, lt-ltb, ltb-true, cases_lt}
 use Rattle.reo_values.specs.declared.value.Value.{Value}
-use Rattle.reo_values.proofs.Naturals.{lt_true, true_lt}
 use Rattle.reo_net_base.specs.declared.joint.Joint.{Joint}
 use Rattle.reo_net_base.specs.Net.{Net, all_sides, side_at}
 use Rattle.reo_net_base.specs.Sides.{side_count, AreRowsOf}
@@ -13,7 +12,7 @@ use Rattle.reo_net_base.specs.First.{positions}
 use Rattle.reo_net_base.specs.Wired.{IsWired, IsOrder}
 use Rattle.reo_net_laws.specs.Ends.{RowsDiffer}
 use Rattle.reo_net_laws.specs.Parts.{IsAssignment, is_joint_inside}
-use Rattle.reo_net_laws.proofs.Sides.{row_below, are_rows, below_or, side_in_range}
+use Rattle.reo_net_laws.proofs.Sides.{row_below, are_rows, side_in_range}
 use Rattle.reo_joint_values.specs.declared.value.JointValue.{JointValue}
 use Rattle.reo_joint_values.specs.declared.value.JointValue.TheVariants.{Jam}
 use Rattle.reo_joint_values.specs.Values.{Choice, items_of, no_joint, giver_side, taker_side, AtSide}
@@ -50,10 +49,10 @@ at_or net side j =
 coloured : (net : Net) → IsWired net → (rows : List ℕ) (items : List (Option Value)) → IsAssignment net (everywhere net) rows items → IsColouring net rows items
 coloured net wired rows items is =
     let inside : (j : ℕ) (d : Joint) → j < length net.joints → is_joint_inside net (everywhere net) (get_or net.joints j d) ≡ true = λ j d lt.
-    lt_true (side_at net (get_or net.joints j d).giver) (side_count net) (side_in_range net wired (get_or net.joints j d).giver (wired.givers j d lt)) in
+    lt-ltb (side_at net (get_or net.joints j d).giver) (side_count net) (side_in_range net wired (get_or net.joints j d).giver (wired.givers j d lt)) in
     record {
       rows_fit = record {
-        in_tables = are_rows (all_sides net.primitives) rows is.one_row (λ k d lt. is.in_tables k d lt (lt_true k (side_count net) lt));
+        in_tables = are_rows (all_sides net.primitives) rows is.one_row (λ k d lt. is.in_tables k d lt (lt-ltb k (side_count net) lt));
         matched = λ j d lt. is.matched j d lt (inside j d lt);
       };
       one_each = is.one_item;
@@ -68,7 +67,7 @@ module _ (net : Net) (wired : IsWired net) (order : List ℕ) (is_order : IsOrde
   value_for j (inr past) = Jam
 
   choice : Choice
-  choice j = value_for j (below_or j (length net.joints))
+  choice j = value_for j (cases_lt j (length net.joints))
 
   -- What is left at a joint is the one value.
   only : (j : ℕ) → j < length net.joints → (v : JointValue) → Contains (live_at lists single.now j) v → (t : (j < length net.joints) ⊎ (length net.joints ≤ j)) → v ≡ value_for j t
@@ -83,11 +82,11 @@ module _ (net : Net) (wired : IsWired net) (order : List ℕ) (is_order : IsOrde
 
   chosen_left : (j : ℕ) → j < length net.joints → Contains (live_at lists single.now j) (choice j)
   unfolding choice
-  chosen_left j lt = left j lt (below_or j (length net.joints))
+  chosen_left j lt = left j lt (cases_lt j (length net.joints))
 
   chosen_only : (j : ℕ) → j < length net.joints → (v : JointValue) → single.now j v ≡ true → v ≡ choice j
   unfolding choice
-  chosen_only j lt v h = only j lt v (filter_has (single.now j) (values_of lists j) v (all_among lists j v (single.within j v h)) h) (below_or j (length net.joints))
+  chosen_only j lt v h = only j lt v (filter_has (single.now j) (values_of lists j) v (all_among lists j v (single.within j v h)) h) (cases_lt j (length net.joints))
 
   abbrev Found : ℕ → Type 0
   Found side = ((k : ℕ) × (k < length net.joints) × AtSide net k side) ⊎ ((k : ℕ) → k < length net.joints → AtSide net k side → ⊥)
@@ -142,7 +141,7 @@ module _ (net : Net) (wired : IsWired net) (order : List ℕ) (is_order : IsOrde
   is_chosen : IsChosen net (numbered lists) (everywhere net) (all_live lists) rows choice
   unfolding rows
   is_chosen = record {
-    fits = λ side h. fits_for side (true_lt side (side_count net) h) (found side);
+    fits = λ side h. fits_for side (ltb-true side (side_count net) h) (found side);
     from = λ side h j lt at. single.within j (choice j) (filtered (single.now j) (values_of lists j) (choice j) (chosen_left j lt));
   }
 

@@ -2,13 +2,12 @@
 use Rattle.std.proofs.Common.{◌≡◌, ◌≢◌, ◌⊎◌, inl, inr, ℕ, zero, suc, ◌+◌, ◌<◌, ◌≤◌, ◌==◌, ◌&&◌, ◌||◌, not, List, [], ◌∷◌, ◌++◌, Bool, true, false, length, get_or, filter, Contains, refl, ap, sym, ◌∙◌, subst, arith}
 use Rattle.std.proofs.lemmas.List.{get_or_append_left, get_or_push, length_push}
 use Rattle.std.proofs.lemmas.List.Elements.{filter_passes, All-contains}
-use Rattle.std.proofs.lemmas.Bool.{cases_eq, cases_Bool}
+use Rattle.std.proofs.lemmas.Bool.{cases_eq, cases_Bool, and_parts}
 use Rattle.std.proofs.lemmas.Bool.Decides.{nat_tests}
-use Rattle.reo_values.proofs.Truths.{and_left}
 use Rattle.reo_net_base.specs.Net.{Net}
 use Rattle.reo_joint_values.specs.declared.value.JointValue.{JointValue}
 use Rattle.reo_joint_values.specs.Values.{Family, value_eq, giver_side, taker_side, AtSide}
-use Rattle.reo_joint_values.proofs.Narrowing.{value_same, same_value}
+use Rattle.reo_refute_base.proofs.Narrowing.{value_same, same_value}
 use Rattle.reo_refute_base.specs.declared.line.LogLine.{LogLine}
 use Rattle.reo_refute_base.specs.declared.line.LogLine.TheVariants.{Drop, Empty, Split}
 use Rattle.reo_refute_base.specs.Items.{Lists, numbered}
@@ -173,10 +172,10 @@ module _ (net : Net) (lists : Lists) (allowed : ℕ → ℕ → Type 0) (told : 
       ]
 
   drop_part : (live : Family) (j : ℕ) (v : JointValue) → IsPartOf (without live j v) live
-  drop_part live j v i w h = and_left (live i w) (not ((i == j) && value_eq w v)) h
+  drop_part live j v i w h = (and_parts (live i w) (not ((i == j) && value_eq w v)) h).0
 
   alone_part : (live : Family) (j : ℕ) (v : JointValue) → IsPartOf (alone live j v) live
-  alone_part live j v i w h = and_left (live i w) (not (i == j) || value_eq w v) h
+  alone_part live j v i w h = (and_parts (live i w) (not (i == j) || value_eq w v) h).0
 
   drop_less : (live : Family) (j : ℕ) → j < length net.joints → (v : JointValue) → Contains (live_at lists live j) v
       → count_to lists (without live j v) (length net.joints) < count_to lists live (length net.joints)

@@ -5,7 +5,7 @@ use Rattle.std.proofs.lemmas.List.{get_or-set_same, get_or-set_other, set_past, 
 use Rattle.std.proofs.lemmas.List.Elements.{Contains-append_left, Contains-append_right, Contains-push}
 use Rattle.std.proofs.lemmas.List.Sums.{position_or_len_is}
 use Rattle.std.proofs.lemmas.List.FromFn.{get_or-range_with_len, length-range_with_len}
-use Rattle.std.proofs.lemmas.Bool.{cases_eq, cases_Bool}
+use Rattle.std.proofs.lemmas.Bool.{cases_eq, cases_Bool, cases_lt}
 use Rattle.reo_values.specs.declared.value.Value.{Value}
 use Rattle.reo_net_base.specs.declared.mark.Mark.{Mark}
 use Rattle.reo_net_base.specs.declared.joint.End.{End}
@@ -17,7 +17,6 @@ use Rattle.reo_net_base.proofs.Ends.{end_self}
 use Rattle.reo_net_laws.specs.Ends.{from_in}
 use Rattle.reo_net_laws.proofs.Joined.{ends_joined}
 use Rattle.reo_net_laws.proofs.Items.{end_is}
-use Rattle.reo_net_laws.proofs.Sides.{below_or}
 use Rattle.reo_joint_values.specs.Values.{no_joint}
 use Rattle.reo_joint_values.specs.Fitting.{given_for, passes_in}
 use Rattle.reo_joint_values.specs.Standing.{giver_of, taker_of, FlowsAt, CanStand, given_in as reach_given, passes_in as reach_passes}
@@ -98,7 +97,7 @@ visit_grows net j old new v = subst (Grows old) (sym v.after) (record {
 })
   where
     here : Begins (items_at old j) (items_at (set old j v.items) j)
-    here = elim (below_or j (length old)) [
+    here = elim (cases_lt j (length old)) [
       | inl lt ↦ subst (Begins (items_at old j)) (sym (get_or-set_same old j v.items [] lt)) (added_begins (items_at old j) (offered_at net old j) v.items v.added)
       | inr past ↦ ([], ap (λ (l : Lists). items_at l j) (set_past old j v.items past) ∙ sym (append-nil (items_at old j)))
     ]

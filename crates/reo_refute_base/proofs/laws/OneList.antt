@@ -1,10 +1,9 @@
 -- The item lists of a circuit are one.
 use Rattle.std.proofs.Common.{◌≡◌, inl, inr, ℕ, zero, suc, ◌≤◌, List, [], ◌∷◌, ◌++◌, length, map, set, Contains, refl, ap, sym, ◌∙◌, subst, arith}
-use Rattle.std.proofs.lemmas.Bool.{cases_eq}
+use Rattle.std.proofs.lemmas.Bool.{cases_eq, cases_lt}
 use Rattle.reo_values.specs.declared.value.Value.{Value}
 use Rattle.reo_net_base.specs.declared.joint.Joint.{Joint}
 use Rattle.reo_net_base.specs.Net.{Net}
-use Rattle.reo_net_laws.proofs.Sides.{below_or}
 use Rattle.reo_refute_base.specs.Items.{Lists, items_at, offered_at, IsAdded, IsVisited, AreVisited, IsPass, ArePassed}
 use Rattle.reo_refute_base.specs.Items.IsAdded.{none, known, fresh}
 use Rattle.reo_refute_base.specs.Items.AreVisited.{begun, next}
@@ -83,7 +82,7 @@ pub item_lists_are_one : ItemListsAreOne
 item_lists_are_one net a b x y =
     let r = reached net a x.passed in
     let s = reached net b y.passed in
-    elim (below_or r.0 s.0) [
+    elim (cases_lt r.0 s.0) [
       | inl lt ↦ stays net r.0 a r.1 x.last s.0 b s.1 (omega (arith, lt))
       | inr le ↦ sym (stays net s.0 b s.1 y.last r.0 a r.1 le)
     ]

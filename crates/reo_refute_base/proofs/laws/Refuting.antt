@@ -4,15 +4,14 @@ use Rattle.std.specs.List.{range_with_len}
 use Rattle.std.proofs.lemmas.List.{get_or-map, length-map}
 use Rattle.std.proofs.lemmas.List.Elements.{Contains-append_left, Contains-append_right}
 use Rattle.std.proofs.lemmas.Option.{slice_get-get_or, slice_get_past}
-use Rattle.std.proofs.lemmas.Bool.{cases_eq}
+use Rattle.std.proofs.lemmas.Bool.{cases_eq, lt-ltb, ltb-true, cases_lt}
 use Rattle.reo_values.specs.declared.value.Value.{Value}
-use Rattle.reo_values.proofs.Naturals.{lt_true, true_lt}
 use Rattle.reo_net_base.specs.Wired.{OrderHasNoCycle, IsWired}
 use Rattle.reo_net_base.specs.Net.{Net, all_sides, side_at, from_sides, to_sides}
 use Rattle.reo_net_base.specs.Sides.{side_count}
 use Rattle.reo_net_base.specs.Colouring.{IsColouring}
 use Rattle.reo_net_laws.specs.Parts.{IsClosed, IsAssignment}
-use Rattle.reo_net_laws.proofs.Sides.{rows_length, row_below, below_or, side_in_range}
+use Rattle.reo_net_laws.proofs.Sides.{rows_length, row_below, side_in_range}
 use Rattle.reo_joint_values.specs.declared.value.JointValue.{JointValue}
 use Rattle.reo_joint_values.specs.declared.value.JointValue.TheVariants.{Flow, RG, GR, GG, Jam}
 use Rattle.reo_joint_values.specs.Values.{no_joint, giver_side}
@@ -38,7 +37,7 @@ branch_of net turn given lists from log (done f none) p le live = absurd (none p
 branch_of net turn given lists from log (part f q branch rest next is parts) p le live =
     elim (cases_eq p q) [
       | inl same ↦ subst (HasBranch net turn given lists) (sym same) (branch, is)
-      | inr other ↦ elim (below_or p q) [
+      | inr other ↦ elim (cases_lt p q) [
         | inl before ↦ absurd (next.none_before p le before live)
         | inr after ↦ branch_of net turn given lists (q + 1) rest parts p (omega (arith, after, other)) live
       ]
@@ -55,7 +54,7 @@ map_has f xs x has = (has.0, subst (λ (n : ℕ). has.0 < n) (sym (length-map xs
 pub all_among : (lists : Lists) (j : ℕ) (v : JointValue) → all_live lists j v ≡ true → Contains (values_of lists j) v
 all_among lists j (Flow n) is =
     Contains-append_left (map Flow (range_with_len 0 (length (items_at lists j)))) (RG ∷ GR ∷ GG ∷ Jam ∷ []) (Flow n)
-    (map_has Flow (range_with_len 0 (length (items_at lists j))) n (range_has (length (items_at lists j)) n (true_lt n (length (items_at lists j)) is)))
+    (map_has Flow (range_with_len 0 (length (items_at lists j))) n (range_has (length (items_at lists j)) n (ltb-true n (length (items_at lists j)) is)))
 all_among lists j RG is = Contains-append_right (map Flow (range_with_len 0 (length (items_at lists j)))) (RG ∷ GR ∷ GG ∷ Jam ∷ []) RG (0, omega arith, refl)
 all_among lists j GR is = Contains-append_right (map Flow (range_with_len 0 (length (items_at lists j)))) (RG ∷ GR ∷ GG ∷ Jam ∷ []) GR (1, omega arith, refl)
 all_among lists j GG is = Contains-append_right (map Flow (range_with_len 0 (length (items_at lists j)))) (RG ∷ GR ∷ GG ∷ Jam ∷ []) GG (2, omega arith, refl)
@@ -63,8 +62,8 @@ all_among lists j Jam is = Contains-append_right (map Flow (range_with_len 0 (le
 
 named_live : (lists : Lists) (j : ℕ) (v : JointValue) → IsNamed (numbered lists) j v → all_live lists j v ≡ true
 named_live lists j (Flow n) named =
-    elim (below_or n (length (items_at lists j))) [
-      | inl lt ↦ lt_true n (length (items_at lists j)) lt
+    elim (cases_lt n (length (items_at lists j))) [
+      | inl lt ↦ lt-ltb n (length (items_at lists j)) lt
       | inr past ↦ let wrong : false ≡ true = subst (λ (o : Option Value). IsSome o) (slice_get_past (items_at lists j) n past) (named refl) in absurd cc
     ]
 named_live lists j RG named = refl
@@ -76,8 +75,8 @@ module _ (net : Net) (wired : IsWired net) where
   pub closed : IsClosed net (everywhere net)
   closed = record {
     along = λ j d lt.
-        let g = lt_true (side_at net (get_or net.joints j d).giver) (side_count net) (side_in_range net wired (get_or net.joints j d).giver (wired.givers j d lt)) in
-        let t = lt_true (side_at net (get_or net.joints j d).taker) (side_count net) (side_in_range net wired (get_or net.joints j d).taker (wired.takers j d lt)) in
+        let g = lt-ltb (side_at net (get_or net.joints j d).giver) (side_count net) (side_in_range net wired (get_or net.joints j d).giver (wired.givers j d lt)) in
+        let t = lt-ltb (side_at net (get_or net.joints j d).taker) (side_count net) (side_in_range net wired (get_or net.joints j d).taker (wired.takers j d lt)) in
         g ∙ sym t;
   }
 
@@ -100,11 +99,11 @@ refutes no_cycle stand choices net wired order is_order turn given log right =
     let can = stand net wired (no_cycle (from_sides net) (to_sides net) order is_order) (everywhere net) (closed net wired) others items of_all j no_joint item lt h at in
     let has = contained net wired lists right.item_lists j item can in
     (has.0, slice_get-get_or (items_at lists j) has.0 item has.1 ∙ ap Some has.2) in
-    let has = choices net wired (numbered lists) (everywhere net) (all_live lists) (closed net wired) (λ side h. true_lt side (side_count net) h) (λ j v lt h name. named_live lists j v name) others items of_all named in
+    let has = choices net wired (numbered lists) (everywhere net) (all_live lists) (closed net wired) (λ side h. ltb-true side (side_count net) h) (λ j v lt h name. named_live lists j v name) others items of_all named in
     let from : (j : ℕ) → j < length net.joints → all_live lists j (has.choice j) ≡ true = λ j lt.
-    has.chosen.from (giver_side net j) (lt_true (giver_side net j) (side_count net) (side_in_range net wired (get_or net.joints j no_joint).giver (wired.givers j no_joint lt))) j lt (inl refl) in
+    has.chosen.from (giver_side net j) (lt-ltb (giver_side net j) (side_count net) (side_in_range net wired (get_or net.joints j no_joint).giver (wired.givers j no_joint lt))) j lt (inl refl) in
     let fitting : IsFitting net lists (IsAllowed net turn given p) (λ side. get_or others side 0) has.choice = record {
-      fits = λ side lt. has.chosen.fits side (lt_true side (side_count net) lt);
+      fits = λ side lt. has.chosen.fits side (lt-ltb side (side_count net) lt);
       are = are;
       among = λ j lt. all_among lists j (has.choice j) (from j lt);
     } in

@@ -5,7 +5,7 @@ use Rattle.std.proofs.lemmas.List.{get_or_past, get_or-set_same, get_or-set_othe
 use Rattle.std.proofs.lemmas.List.Elements.{Contains-push_cases, Contains-append_cases}
 use Rattle.std.proofs.lemmas.List.FromFn.{get_or-range_with_len, length-range_with_len}
 use Rattle.std.proofs.lemmas.List.Sums.{passes_at_first}
-use Rattle.std.proofs.lemmas.Bool.{cases_eq}
+use Rattle.std.proofs.lemmas.Bool.{cases_eq, cases_lt}
 use Rattle.reo_values.specs.declared.value.Value.{Value}
 use Rattle.reo_net_base.specs.declared.mark.Mark.TheVariants.{F, G, R, J}
 use Rattle.reo_net_base.specs.declared.joint.End.{End}
@@ -14,7 +14,6 @@ use Rattle.reo_net_base.specs.Marks.{is_flow}
 use Rattle.reo_net_base.specs.Net.{Net, end_of, end_eq}
 use Rattle.reo_net_laws.specs.Ends.{mark_in, from_in}
 use Rattle.reo_net_laws.proofs.Items.{end_is}
-use Rattle.reo_net_laws.proofs.Sides.{below_or}
 use Rattle.reo_joint_values.specs.Values.{no_joint}
 use Rattle.reo_joint_values.specs.Fitting.{given_for, passes_in}
 use Rattle.reo_joint_values.specs.Standing.{giver_of, CanStand}
@@ -73,7 +72,7 @@ module _ (net : Net) (lists : Lists) (one_each : length lists ≡ length net.joi
       ] refl has
 
   into : (source : End) (taken : Value) → Contains (items_at lists (joint_into net source)) taken → joint_into net source < length net.joints
-  into source taken has = elim (below_or (joint_into net source) (length net.joints)) [
+  into source taken has = elim (cases_lt (joint_into net source) (length net.joints)) [
     | inl lt ↦ lt
     | inr past ↦
         let none : items_at lists (joint_into net source) ≡ [] = get_or_past lists (joint_into net source) [] (omega (arith, past, one_each)) in

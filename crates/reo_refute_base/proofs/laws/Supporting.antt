@@ -9,14 +9,14 @@ use Rattle.reo_net_base.specs.Sides.{side_count}
 use Rattle.reo_net_base.specs.Wired.{IsWired}
 use Rattle.reo_net_laws.specs.Ends.{mark_in, IsRowOf}
 use Rattle.reo_net_laws.proofs.Search.{Decided, any_below, all_below, both_or, bool_or, eq_or}
-use Rattle.reo_net_laws.proofs.Sides.{below_or}
+use Rattle.std.proofs.lemmas.Bool.{cases_lt}
 use Rattle.reo_joint_values.specs.declared.value.JointValue.{JointValue}
 use Rattle.reo_joint_values.specs.declared.value.JointValue.TheVariants.{RG}
 use Rattle.reo_joint_values.specs.Values.{giver_mark, taker_mark, Names, Choice, Family, item_named, joint_of, giver_side, taker_side, AtSide}
 use Rattle.reo_joint_values.specs.Fitting.{given_in, passes_in, GivesValue, TakesValue, Fits, IsFrom}
 use Rattle.reo_joint_values.specs.Supported.{IsUsed}
 use Rattle.reo_joint_values.proofs.Fitting.{fits_local}
-use Rattle.reo_joint_values.proofs.Narrowing.{at_cases}
+use Rattle.reo_refute_base.proofs.Narrowing.{at_cases}
 use Rattle.reo_joint_values.proofs.Changing.{HasChoice}
 use Rattle.reo_joint_values.proofs.Inside.{side_below}
 use Rattle.reo_refute_base.specs.Items.{Lists, numbered}
@@ -56,7 +56,7 @@ module _ (net : Net) (names : Names) where
   in_table side row side_in lt d = subst (λ (s : Side). row < row_count s) (get_or_default (all_sides net.primitives) side no_side d side_in) lt
 
   in_table_told : (side row : ℕ) → side < side_count net → Decided (IsRowOf net side row)
-  in_table_told side row side_in = elim (below_or row (rows_at side)) [
+  in_table_told side row side_in = elim (cases_lt row (rows_at side)) [
     | inl lt ↦ inl (in_table side row side_in lt)
     | inr le ↦ inr (λ h. omega (arith, le, h no_side))
   ]
@@ -115,7 +115,7 @@ module _ (net : Net) (wired : IsWired net) (turn : ℕ) (given : List ℕ) (list
   )
 
   allowed_told : (row : ℕ) → Decided (IsAllowed net turn given p side row)
-  allowed_told row = elim (below_or row (rows_at net names side)) [
+  allowed_told row = elim (cases_lt row (rows_at net names side)) [
     | inl lt ↦ allowed_or net turn given p side row (in_table net names side row side_in lt)
     | inr le ↦ inr (λ a. omega (arith, le, a.in_table no_side))
   ]

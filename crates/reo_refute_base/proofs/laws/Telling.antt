@@ -1,11 +1,10 @@
 -- Which places are live can be told.
 use Rattle.std.proofs.Common.{◌≡◌, ◌⊎◌, inl, inr, ℕ, ◌<◌, List, length, get_or, subst, arith}
 use Rattle.std.proofs.lemmas.List.{get_or_default}
-use Rattle.std.proofs.lemmas.Bool.{cases_eq}
+use Rattle.std.proofs.lemmas.Bool.{cases_eq, cases_lt}
 use Rattle.reo_net_base.specs.Net.{Net, Side, all_sides, no_side, row_count}
 use Rattle.reo_net_base.specs.First.{positions}
 use Rattle.reo_net_laws.specs.Ends.{IsRowOf}
-use Rattle.reo_net_laws.proofs.Sides.{below_or}
 use Rattle.reo_refute_base.specs.Places.{place_at, IsAllowed}
 use Rattle.reo_refute_base.specs.laws.Singles.{LivePlacesAreTold}
 use Rattle.reo_refute_base.proofs.laws.Deciding.{side_in}
@@ -25,7 +24,7 @@ module _ (net : Net) (turn : ℕ) (given : List ℕ) (p side row : ℕ) (in_tabl
         | inl bad ↦ inr (λ a. bad.2.1 (a.before bad.0 bad.1 bad.2.0))
         | inr before ↦ elim (cases_eq (place_at net turn p).side side) [
           | inr other ↦ inl (record { in_table = in_table; before = before; smaller = λ is. absurd (other is) })
-          | inl is ↦ elim (below_or (number p row) (number p (get_or given side 0))) [
+          | inl is ↦ elim (cases_lt (number p row) (number p (get_or given side 0))) [
             | inl lt ↦ inl (record { in_table = in_table; before = before; smaller = λ _. lt })
             | inr ge ↦ inr (λ a. let lt = a.smaller is in omega (arith, lt, ge))
           ]
@@ -34,7 +33,7 @@ module _ (net : Net) (turn : ℕ) (given : List ℕ) (p side row : ℕ) (in_tabl
 
 pub live_places_are_told : LivePlacesAreTold
 live_places_are_told net turn given p =
-    elim (below_or p (length (positions net turn))) [
+    elim (cases_lt p (length (positions net turn))) [
       | inr past ↦ inr (λ l. omega (arith, l.in_range, past))
       | inl p_in ↦
           let side : ℕ = (place_at net turn p).side in

@@ -13,7 +13,7 @@ use Rattle.reo_net_base.specs.declared.mark.Mark.TheVariants.{F, G, R, J}
 use Rattle.reo_net_laws.proofs.Search.{Decided, both_or}
 use Rattle.reo_joint_values.specs.declared.value.JointValue.{JointValue}
 use Rattle.reo_joint_values.specs.Values.{value_eq}
-use Rattle.reo_joint_values.proofs.Narrowing.{value_same, same_value}
+use Rattle.reo_refute_base.proofs.Narrowing.{value_same, same_value}
 
 module _ {A B : Type 0} where
   -- What can be told where something holds that can be told, can be told with it as a premise.

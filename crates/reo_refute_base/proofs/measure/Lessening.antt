@@ -2,13 +2,12 @@
 use Rattle.std.proofs.Common.{◌≡◌, inl, inr, ℕ, zero, suc, ◌+◌, ◌*◌, ◌^◌, ◌<◌, ◌≤◌, ◌==◌, ◌&&◌, ◌||◌, not, List, [], ◌∷◌, false, length, map, Contains, ap, sym, ◌∙◌, subst, arith, mul-le-mul_right, lit<}
 use Rattle.std.specs.List.{sum_by}
 use Rattle.std.proofs.Math.Nat.{one-le-pow, pow-le-pow_right, pow-suc}
-use Rattle.std.proofs.lemmas.Bool.{cases_eq, cases_Bool}
+use Rattle.std.proofs.lemmas.Bool.{cases_eq, cases_Bool, and_parts}
 use Rattle.std.proofs.lemmas.List.Sums.{sum_by-cons}
-use Rattle.reo_values.proofs.Truths.{and_left}
 use Rattle.reo_net_base.specs.Net.{Net}
 use Rattle.reo_joint_values.specs.declared.value.JointValue.{JointValue}
 use Rattle.reo_joint_values.specs.Values.{Family, value_eq}
-use Rattle.reo_joint_values.proofs.Narrowing.{value_same, same_value}
+use Rattle.reo_refute_base.proofs.Narrowing.{value_same, same_value}
 use Rattle.reo_refute_base.specs.Items.{Lists}
 use Rattle.reo_refute_base.specs.Live.{values_of, live_at, without, alone}
 use Rattle.reo_refute_base.specs.laws.Singles.{IsPartOf}
@@ -30,10 +29,10 @@ count_less lists now live sub j less (suc n) lt =
 
 module _ (net : Net) (lists : Lists) where
   drop_part : (live : Family) (j : ℕ) (v : JointValue) → IsPartOf (without live j v) live
-  drop_part live j v i w h = and_left (live i w) (not ((i == j) && value_eq w v)) h
+  drop_part live j v i w h = (and_parts (live i w) (not ((i == j) && value_eq w v)) h).0
 
   alone_part : (live : Family) (j : ℕ) (v : JointValue) → IsPartOf (alone live j v) live
-  alone_part live j v i w h = and_left (live i w) (not (i == j) || value_eq w v) h
+  alone_part live j v i w h = (and_parts (live i w) (not (i == j) || value_eq w v) h).0
 
   drop_less : (live : Family) (j : ℕ) → j < length net.joints → (v : JointValue) → Contains (live_at lists live j) v
       → live_count lists (without live j v) (length net.joints) < live_count lists live (length net.joints)

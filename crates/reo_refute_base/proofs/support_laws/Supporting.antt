@@ -1,15 +1,14 @@
 -- Support by rows alone.
 use Rattle.std.proofs.Common.{arith, ◌≡◌, inl, inr, ℕ, ◌<◌, ◌==◌, ◌&&◌, ◌||◌, not, Bool, true, length, refl, ap, ◌∙◌}
-use Rattle.std.proofs.lemmas.Bool.{cases_Bool}
+use Rattle.std.proofs.lemmas.Bool.{cases_Bool, eqb-true, eq-eqb}
 use Rattle.std.proofs.lemmas.Bool.Decides.{nat_tests}
-use Rattle.reo_values.proofs.Naturals.{eq_same, same_eq}
 use Rattle.reo_values.proofs.Truths.{and_or_left, and_or_right}
 use Rattle.reo_net_base.specs.Net.{Net}
 use Rattle.reo_net_base.specs.Wired.{IsWired}
 use Rattle.reo_joint_values.specs.declared.value.JointValue.{JointValue}
 use Rattle.reo_joint_values.specs.Values.{Names, Choice, Family, value_eq, AtSide}
 use Rattle.reo_joint_values.specs.Fitting.{IsFrom}
-use Rattle.reo_joint_values.proofs.Narrowing.{value_same, same_value}
+use Rattle.reo_refute_base.proofs.Narrowing.{value_same, same_value}
 use Rattle.reo_joint_values.proofs.Works.{Possible, fits_works, works_possible}
 use Rattle.reo_refute_base.specs.Live.{alone, HasSupport}
 use Rattle.reo_refute_base.specs.Places.{IsAllowed}
@@ -26,7 +25,7 @@ module _ (net : Net) (wired : IsWired net) (names : Names) (allowed : ℕ → �
   held choice is from i lt at =
       elim (cases_Bool (i == j)) [
         | inl holds ↦
-            let same : choice i ≡ v = ap choice (eq_same i j holds) ∙ is in
+            let same : choice i ≡ v = ap choice (eqb-true i j holds) ∙ is in
             and_or_right (live i (choice i)) (i == j) (value_eq (choice i) v) (from i lt at) (ap (λ (w : JointValue). value_eq w v) same ∙ value_same v)
         | inr off ↦ and_or_left (live i (choice i)) (i == j) (value_eq (choice i) v) (from i lt at) off
       ]
@@ -39,7 +38,7 @@ module _ (net : Net) (wired : IsWired net) (names : Names) (allowed : ℕ → �
   supported : j < length net.joints → AtSide net j side → SupportingRow net names allowed live side j v → HasSupport net names allowed live side j v
   supported lt at s =
       let p : Possible net names (alone live j v) side s.row = works_possible net wired names (alone live j v) side s.row s.works in
-      let here : value_eq (p.choice j) v ≡ true = one_of (live j (p.choice j)) (j == j) (value_eq (p.choice j) v) (same_eq j j refl) (p.from j lt at) in
+      let here : value_eq (p.choice j) v ≡ true = one_of (live j (p.choice j)) (j == j) (value_eq (p.choice j) v) (eq-eqb j j refl) (p.from j lt at) in
       record {
         used = record {
           row = s.row;

@@ -1,11 +1,10 @@
 -- Tables of columns, joint after joint.
 use Rattle.std.proofs.Common.{◌≡◌, inl, inr, ℕ, ◌+◌, ◌<◌, Bool, true, false, List, [], ◌∷◌, ◌++◌, length, get_or, replicate, ap, sym, ◌∙◌, subst, arith}
-use Rattle.std.proofs.lemmas.Bool.{cases_eq}
+use Rattle.std.proofs.lemmas.Bool.{cases_eq, cases_lt}
 use Rattle.std.proofs.lemmas.List.{length-append, length-set, length-replicate, get_or-replicate, get_or_append_left, get_or-set_same, get_or-set_other}
 use Rattle.std.proofs.Math.Seq.{get_or-append_seam}
 use Rattle.reo_net_base.specs.Net.{Net, side_at}
 use Rattle.reo_net_base.specs.Sides.{side_count}
-use Rattle.reo_net_laws.proofs.Sides.{below_or}
 use Rattle.reo_joint_values.specs.Values.{giver_side, taker_side}
 use Rattle.reo_refute_live.specs.declared.support.columns.Column.{Column}
 use Rattle.reo_refute_live.specs.support.Columns.{AreMarksAt, IsColumnOf, IsColumn, HasColumn, AreTables, IsColumnAdded, joint_end, no_column}
@@ -52,7 +51,7 @@ module _ (columns : List Column) (column : Column) where
 
   each_more : (Is : Column → Type 0) → Is column → ((m : ℕ) → m < length columns → Is (get_or columns m no_column))
       → (m : ℕ) → m < length (columns ++ (column ∷ [])) → Is (get_or (columns ++ (column ∷ [])) m no_column)
-  each_more Is last each m lt = elim (below_or m (length columns)) [
+  each_more Is last each m lt = elim (cases_lt m (length columns)) [
     | inl below ↦ subst Is (sym (get_or_append_left columns (column ∷ []) no_column m below)) (each m below)
     | inr from ↦
         let same : length columns ≡ m = omega (arith, from, lt, length-append columns (column ∷ [])) in
@@ -113,7 +112,7 @@ pub so_far_giver : (net : Net) (j : ℕ) → j < length net.joints → giver_sid
 so_far_giver net j lt in_range old new are added = record {
   one_each = same_length net j true lt j j old new are added in_range;
   each = each_new net j true lt j j old new are added in_range;
-  giving = λ k side s_lt k_lt at. elim (below_or k j) [
+  giving = λ k side s_lt k_lt at. elim (cases_lt k j) [
     | inl below ↦ kept net j true lt j j old new are added in_range k side true (are.giving k side s_lt below at)
     | inr from ↦
         let same : j ≡ k = omega (arith, from, k_lt) in
@@ -129,7 +128,7 @@ so_far_taker net j lt in_range old new are added = record {
   one_each = same_length net j false lt (j + 1) j old new are added in_range;
   each = each_new net j false lt (j + 1) j old new are added in_range;
   giving = λ k side s_lt k_lt at. kept net j false lt (j + 1) j old new are added in_range k side true (are.giving k side s_lt k_lt at);
-  taking = λ k side s_lt k_lt at. elim (below_or k j) [
+  taking = λ k side s_lt k_lt at. elim (cases_lt k j) [
     | inl below ↦ kept net j false lt (j + 1) j old new are added in_range k side false (are.taking k side s_lt below at)
     | inr from ↦
         let same : j ≡ k = omega (arith, from, k_lt) in

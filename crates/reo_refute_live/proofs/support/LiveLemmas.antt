@@ -2,11 +2,9 @@
 use Rattle.std.proofs.Common.{◌≡◌, ◌≢◌, ◌↔◌, inl, inr, ℕ, ◌<◌, Bool, true, false, ◌||◌, ◌&&◌, not, List, length, get_or, refl, ap, sym, ◌∙◌, subst, arith}
 use Rattle.std.specs.Prelude.{IsTrue}
 use Rattle.std.specs.Bool.{◌==◌}
-use Rattle.std.proofs.lemmas.Bool.{cases_lt, or_left, or_right}
+use Rattle.std.proofs.lemmas.Bool.{cases_lt, or_left, or_right, and_parts, or_cases, eq-eqb, ne_eqb}
 use Rattle.std.proofs.lemmas.Bool.Decides.{nat_tests}
 use Rattle.std.proofs.lemmas.List.{get_or_past}
-use Rattle.reo_values.proofs.Truths.{and_both, either}
-use Rattle.reo_values.proofs.Naturals.{same_eq, other_eq}
 use Rattle.reo_net_base.specs.declared.mark.Mark.{Mark}
 use Rattle.reo_net_base.specs.declared.mark.Mark.TheVariants.{F, G, R, J}
 use Rattle.reo_joint_values.specs.declared.value.JointValue.{JointValue}
@@ -40,7 +38,7 @@ module _ (live : LiveAt) (flow : Bool) (is_flow : IsTrue flow ↔ ((n : ℕ) × 
     where
       to : (m : Mark) → marks_has (giver_marks live flow) m ≡ true → IsMarkOf (has live) true m
       to F h = let f = is_flow.0 h in record { value = Flow f.0; has = f.1; marked = refl }
-      to G h = elim (either live.gr live.gg h) [ inl a ↦ record { value = GR; has = a; marked = refl } | inr b ↦ record { value = GG; has = b; marked = refl } ]
+      to G h = elim (or_cases live.gr live.gg h) [ inl a ↦ record { value = GR; has = a; marked = refl } | inr b ↦ record { value = GG; has = b; marked = refl } ]
       to R h = record { value = RG; has = h; marked = refl }
       to J h = record { value = Jam; has = h; marked = refl }
 
@@ -56,7 +54,7 @@ module _ (live : LiveAt) (flow : Bool) (is_flow : IsTrue flow ↔ ((n : ℕ) × 
     where
       to : (m : Mark) → marks_has (taker_marks live flow) m ≡ true → IsMarkOf (has live) false m
       to F h = let f = is_flow.0 h in record { value = Flow f.0; has = f.1; marked = refl }
-      to G h = elim (either live.rg live.gg h) [ inl a ↦ record { value = RG; has = a; marked = refl } | inr b ↦ record { value = GG; has = b; marked = refl } ]
+      to G h = elim (or_cases live.rg live.gg h) [ inl a ↦ record { value = RG; has = a; marked = refl } | inr b ↦ record { value = GG; has = b; marked = refl } ]
       to R h = record { value = GR; has = h; marked = refl }
       to J h = record { value = Jam; has = h; marked = refl }
 
@@ -75,7 +73,7 @@ alone_here a b c e = grind (arith, nat_tests)
 
 -- Besides the joint that is held all is as it was.
 pub others_stay : (live : Family) (held : ℕ) (v : JointValue) (j : ℕ) → j ≢ held → (w : JointValue) → alone live held v j w ≡ live j w
-others_stay live held v j off w = alone_other (live j w) (j == held) (value_eq w v) (other_eq j held off)
+others_stay live held v j off w = alone_other (live j w) (j == held) (value_eq w v) (ne_eqb j held off)
 
 -- The marks of what is live besides the joint that is held.
 pub marks_other : (live : Family) (held : ℕ) (v : JointValue) (j : ℕ) → j ≢ held → (gives : Bool) (m : Mark) → IsMarkOf (live j) gives m ↔ HasMark (alone live held v) j gives m
@@ -89,11 +87,11 @@ pub marks_held : (live : Family) (held : ℕ) (v : JointValue) (j : ℕ) → j �
 marks_held live held v j at is gives m = (
   λ e. record {
     value = v;
-    has = alone_here (live j v) (j == held) (value_eq v v) (same_eq j held at) ∙ both (live j v) (value_eq v v) (ap (λ (i : ℕ). live i v) at ∙ is) (value_same v);
+    has = alone_here (live j v) (j == held) (value_eq v v) (eq-eqb j held at) ∙ both (live j v) (value_eq v v) (ap (λ (i : ℕ). live i v) at ∙ is) (value_same v);
     marked = e;
   },
   λ x.
-      let pair = and_both (live j x.value) (value_eq x.value v) (sym (alone_here (live j x.value) (j == held) (value_eq x.value v) (same_eq j held at)) ∙ x.has) in
+      let pair = and_parts (live j x.value) (value_eq x.value v) (sym (alone_here (live j x.value) (j == held) (value_eq x.value v) (eq-eqb j held at)) ∙ x.has) in
       ap (value_mark gives) (sym (same_value x.value v pair.1)) ∙ x.marked,
 )
   where

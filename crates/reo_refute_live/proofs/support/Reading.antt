@@ -9,7 +9,7 @@ use Rattle.reo_net_base.specs.Behaviour.{Behaviour}
 use Rattle.reo_net_base.specs.Net.{Net, no_side, behaviour_at, side_at}
 use Rattle.reo_net_base.specs.Wired.{IsWired}
 use Rattle.reo_net_laws.specs.Ends.{mark_in, IsRowOf}
-use Rattle.reo_net_laws.proofs.Sides.{below_or}
+use Rattle.std.proofs.lemmas.Bool.{cases_lt}
 use Rattle.reo_joint_values.specs.Values.{joint_of}
 use Rattle.reo_refute_live.specs.declared.support.columns.Column.{Column}
 use Rattle.reo_refute_live.specs.support.Columns.{IsColumn, joint_end, no_column, AreColumns}
@@ -24,7 +24,7 @@ mark_is net e row b s b_is s_is = rw (s_is, b_is) refl
 -- One more byte.
 pub byte_more : (f : ℕ → ℕ) (n : ℕ) (bytes new : List ℕ) (byte : ℕ) → new ≡ bytes ++ (byte ∷ []) → length bytes ≡ n → ((k : ℕ) → k < n → get_or bytes k 0 ≡ f k) → byte ≡ f n
     → (k : ℕ) → k < n + 1 → get_or new k 0 ≡ f k
-byte_more f n bytes new byte is long below here k lt = ap (λ (l : List ℕ). get_or l k 0) is ∙ elim (below_or k n) [
+byte_more f n bytes new byte is long below here k lt = ap (λ (l : List ℕ). get_or l k 0) is ∙ elim (cases_lt k n) [
   | inl less ↦ get_or_append_left bytes (byte ∷ []) 0 k (omega (arith, less, long)) ∙ below k less
   | inr from ↦
       let same : length bytes ≡ k = omega (arith, from, lt, long) in

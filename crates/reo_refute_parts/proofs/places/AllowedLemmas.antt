@@ -1,15 +1,14 @@
 -- Rows that are allowed, place after place.
 use Rattle.std.proofs.Common.{◌≡◌, ◌≢◌, ◌↔◌, inl, inr, ℕ, ◌+◌, ◌<◌, List, [], length, get_or, set, replicate, ap, sym, ◌∙◌, subst, arith}
-use Rattle.std.proofs.lemmas.Bool.{cases_eq}
+use Rattle.std.proofs.lemmas.Bool.{cases_eq, cases_lt}
 use Rattle.std.proofs.lemmas.List.{get_or_default, length-replicate, get_or-replicate, length-set, get_or-set_same, get_or-set_other}
 use Rattle.reo_net_base.specs.Net.{Net, Side, all_sides, no_side, row_count}
 use Rattle.reo_net_base.specs.Sides.{side_count}
 use Rattle.reo_net_base.specs.First.{Position, positions}
 use Rattle.reo_net_laws.proofs.Places.{positions_in_range}
-use Rattle.reo_net_laws.proofs.Sides.{below_or}
 use Rattle.reo_refute_base.specs.Places.{place_at, IsAllowed, IsLive}
 use Rattle.reo_refute_base.proofs.Places.{place_in_range}
-use Rattle.reo_refute_parts.specs.declared.places.place.KeyPlace.{KeyPlace}
+use Rattle.reo_refute_parts.specs.declared.places.place.SidePlace.{SidePlace}
 use Rattle.reo_refute_parts.specs.places.KeyPlaces.{position_of, IsPlace}
 use Rattle.reo_refute_parts.specs.places.AllowedRows.{AreMarked, AreBytes, Agrees, AreAgreeing}
 
@@ -34,7 +33,7 @@ agreeing_begun net bytes are turn given = record {
       };
 }
 
-module _ (net : Net) (turn : ℕ) (given : List ℕ) (p : ℕ) (place : KeyPlace) (is : IsPlace net turn p place) where
+module _ (net : Net) (turn : ℕ) (given : List ℕ) (p : ℕ) (place : SidePlace) (is : IsPlace net turn p place) where
   abbrev pub number : ℕ → ℕ
   number = (position_of net turn place).number
 
@@ -74,7 +73,7 @@ module _ (net : Net) (turn : ℕ) (given : List ℕ) (p : ℕ) (place : KeyPlace
     agrees_here row = (
       λ both. record {
         in_table = both.0.in_table;
-        before = λ q lt at. elim (below_or q p) [
+        before = λ q lt at. elim (cases_lt q p) [
           | inl below ↦ both.0.before q below at
           | inr from ↦
               let q_is : p ≡ q = omega (arith, from, lt) in
@@ -102,7 +101,7 @@ module _ (net : Net) (turn : ℕ) (given : List ℕ) (p : ℕ) (place : KeyPlace
     agrees_other : (side : ℕ) → side ≢ place.side → (row : ℕ) → Agrees net turn given p side row → Agrees net turn given (p + 1) side row
     agrees_other side other row a = record {
       in_table = a.in_table;
-      before = λ q lt at. elim (below_or q p) [
+      before = λ q lt at. elim (cases_lt q p) [
         | inl below ↦ a.before q below at
         | inr from ↦
             let q_is : q ≡ p = omega (arith, from, lt) in

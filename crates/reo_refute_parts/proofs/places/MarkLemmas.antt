@@ -2,7 +2,7 @@
 use Rattle.std.proofs.Common.{◌≡◌, ◌≢◌, ◌↔◌, inl, inr, ℕ, ◌+◌, ◌<◌, ◌≤◌, List, [], ◌∷◌, ◌++◌, length, get_or, set, refl, ap, sym, ◌∙◌, subst, arith}
 use Rattle.std.proofs.lemmas.List.{length-append, length-set, get_or_append_left, get_or-set_same, get_or-set_other}
 use Rattle.std.proofs.Math.Seq.{get_or-append_seam}
-use Rattle.reo_net_laws.proofs.Sides.{below_or}
+use Rattle.std.proofs.lemmas.Bool.{cases_lt}
 use Rattle.reo_refute_parts.specs.places.AllowedRows.{AreMarked}
 
 module _ (test : ℕ → Type 0) where
@@ -15,7 +15,7 @@ module _ (test : ℕ → Type 0) where
   pub marked_more : (n : ℕ) (bytes : List ℕ) (byte : ℕ) → AreMarked n test bytes → ((byte ≢ 0) ↔ test n) → AreMarked (n + 1) test (bytes ++ (byte ∷ []))
   marked_more n bytes byte are is = record {
     one_each = length-append bytes (byte ∷ []) ∙ ap (λ (m : ℕ). m + 1) are.one_each;
-    exact = λ row lt. elim (below_or row n) [
+    exact = λ row lt. elim (cases_lt row n) [
       | inl below ↦ subst (λ (b : ℕ). (b ≢ 0) ↔ test row) (sym (get_or_append_left bytes (byte ∷ []) 0 row (omega (arith, below, are.one_each)))) (are.exact row below)
       | inr from ↦
           let same : n ≡ row = omega (arith, from, lt) in
@@ -37,7 +37,7 @@ module _ (keep : ℕ → Type 0) where
       → ((k : ℕ) → k ≢ n → get_or new k 0 ≡ get_or now k 0) → ((get_or new n 0 ≢ 0) ↔ ((get_or old n 0 ≢ 0) × keep n)) → AreCleared keep (n + 1) old new
   grown n old now new are same others here = record {
     length_is = same ∙ are.length_is;
-    done = λ k lt. elim (below_or k n) [
+    done = λ k lt. elim (cases_lt k n) [
       | inl below ↦ subst (λ (b : ℕ). (b ≢ 0) ↔ ((get_or old k 0 ≢ 0) × keep k)) (sym (others k (λ e. omega (arith, e, below)))) (are.done k below)
       | inr from ↦
           let is : n ≡ k = omega (arith, from, lt) in

@@ -21,7 +21,7 @@ use std::alloc::Global;
 /// A row at an end that gives, in a circuit with the joint at each end and the items that stand at
 /// each joint so far.
 #[derive(Drop)]
-pub(crate) struct Giving<'a, P: Primitive> {
+pub(crate) struct Bringing<'a, P: Primitive> {
     pub(crate) circuit: &'a Circuit<P>,
     pub(crate) ends: &'a Ends,
     pub(crate) lists: &'a [List<Value>],
@@ -32,7 +32,7 @@ pub(crate) struct Giving<'a, P: Primitive> {
 /// Notes the item that a row gives by the state alone.
 fn note_alone<P: Primitive>(
     alloc: Global,
-    giving: &Giving<'_, P>,
+    giving: &Bringing<'_, P>,
     old: &[Value],
     new: &mut List<Value>,
 ) -> Result<(), NoMemory>
@@ -55,7 +55,7 @@ fn note_alone<P: Primitive>(
 /// Notes the item that a row gives for one that it takes, if it lets that one in.
 fn note_for<P: Primitive>(
     alloc: Global,
-    giving: &Giving<'_, P>,
+    giving: &Bringing<'_, P>,
     from: usize,
     taken: &Value,
     old: &[Value],
@@ -84,7 +84,7 @@ fn note_for<P: Primitive>(
 /// Notes the items that a row gives for those that it takes.
 fn note_passed<P: Primitive>(
     alloc: Global,
-    giving: &Giving<'_, P>,
+    giving: &Bringing<'_, P>,
     from: usize,
     taken: &[Value],
     old: &[Value],
@@ -109,7 +109,7 @@ fn note_passed<P: Primitive>(
 /// Notes the items that a row gives at an end by which it flows.
 fn note_given<P: Primitive>(
     alloc: Global,
-    giving: &Giving<'_, P>,
+    giving: &Bringing<'_, P>,
     old: &[Value],
     new: &mut List<Value>,
 ) -> Result<(), NoMemory>
@@ -142,7 +142,7 @@ fn note_given<P: Primitive>(
 /// Notes the items that a row gives at an end, if it flows there.
 pub(crate) fn note_row<P: Primitive>(
     alloc: Global,
-    giving: &Giving<'_, P>,
+    giving: &Bringing<'_, P>,
     old: &[Value],
     new: &mut List<Value>,
 ) -> Result<(), NoMemory>

@@ -6,7 +6,7 @@ ghost use Rattle.reo_net_circuit.specs.found_ends.Ends.{AreEnds};
 ghost use Rattle.reo_joint_values.specs.Many.{HasMany};
 ghost use Rattle.reo_refute_parts.specs.lists.Visits.{AreGood, IsNew, Comes};
 
-use crate::lists::rows::{Giving, note_row};
+use crate::lists::rows::{Bringing, note_row};
 use reo_net_base::{End, Primitive};
 use reo_net_circuit::{Circuit, Ends};
 use reo_values::{List, NoMemory, Value};
@@ -46,7 +46,7 @@ fn new_items<P: Primitive>(
     let old = lists[joint].as_slice();
     let mut new = List::new(alloc);
     for row in 0..plain_rows(circuit, giver) {
-        let giving = Giving {
+        let giving = Bringing {
             circuit,
             ends,
             lists,

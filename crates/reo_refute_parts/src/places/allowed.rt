@@ -7,7 +7,7 @@ ghost use Rattle.reo_refute_parts.specs.places.KeyPlaces.{IsPlace};
 ghost use Rattle.reo_refute_parts.specs.places.AllowedRows.{AreBytes, AreAgreeing, AreAllowedRows};
 
 use crate::places::marking::{all_marked, clear_others, has_mark, mark_smaller};
-use crate::places::place::KeyPlace;
+use crate::places::place::SidePlace;
 use crate::places::places::number_of;
 use reo_net_base::Primitive;
 use reo_net_circuit::Circuit;
@@ -50,7 +50,7 @@ impl AllowedRows {
         turn: u64,
         given: &[u32],
         number: usize,
-        place: KeyPlace,
+        place: SidePlace,
     ) -> Result<bool, NoMemory>
         requires given { AreRowsOf (net_of P.behaviour circuit.now) given.now }
         requires place { IsPlace (net_of P.behaviour circuit.now) turn number place }
@@ -75,7 +75,7 @@ impl AllowedRows {
         turn: u64,
         given: &[u32],
         number: usize,
-        place: KeyPlace,
+        place: SidePlace,
     )
         requires given { AreRowsOf (net_of P.behaviour circuit.now) given.now }
         requires place { IsPlace (net_of P.behaviour circuit.now) turn number place }

@@ -6,7 +6,7 @@ ghost use Rattle.reo_net_laws.specs.Ends.{IsRowOf};
 ghost use Rattle.reo_refute_parts.specs.places.KeyPlaces.{position_of};
 ghost use Rattle.reo_refute_parts.specs.places.AllowedRows.{AreMarked};
 
-use crate::places::place::KeyPlace;
+use crate::places::place::SidePlace;
 use crate::places::places::number_of;
 use reo_net_base::Primitive;
 use reo_net_circuit::Circuit;
@@ -41,7 +41,7 @@ pub(crate) fn has_mark(bytes: &[u8]) -> bool
 fn smaller_byte<P: Primitive>(
     circuit: &Circuit<P>,
     turn: u64,
-    place: KeyPlace,
+    place: SidePlace,
     row: usize,
     wanted: usize,
     agrees: u8,
@@ -62,7 +62,7 @@ fn smaller_byte<P: Primitive>(
 pub(crate) fn mark_smaller<P: Primitive>(
     circuit: &Circuit<P>,
     turn: u64,
-    place: KeyPlace,
+    place: SidePlace,
     wanted: usize,
     agreeing: &[u8],
     smaller: &mut List<u8>,
@@ -86,7 +86,7 @@ pub(crate) fn mark_smaller<P: Primitive>(
 pub(crate) fn clear_others<P: Primitive>(
     circuit: &Circuit<P>,
     turn: u64,
-    place: KeyPlace,
+    place: SidePlace,
     wanted: usize,
     rows: &mut List<u8>,
 )

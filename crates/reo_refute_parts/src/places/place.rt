@@ -11,7 +11,7 @@ pub enum Number {
 
 /// A place of a key: a side, and what its row puts there.
 #[derive(Clone, Copy)]
-pub struct KeyPlace {
+pub struct SidePlace {
     /// The number of the side, from 0.
     pub side: usize,
     /// What its row puts there.

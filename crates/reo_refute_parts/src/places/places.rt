@@ -6,7 +6,7 @@ ghost use Rattle.reo_net_base.specs.First.{leading_positions, class_positions, r
 ghost use Rattle.reo_net_laws.specs.Ends.{IsRowOf};
 ghost use Rattle.reo_refute_parts.specs.places.KeyPlaces.{position_of};
 
-use crate::places::place::{KeyPlace, Number};
+use crate::places::place::{Number, SidePlace};
 use reo_net_base::Primitive;
 use reo_net_circuit::Circuit;
 use reo_values::{List, NoMemory};
@@ -16,7 +16,7 @@ use std::alloc::Global;
 pub(crate) fn number_of<P: Primitive>(
     circuit: &Circuit<P>,
     turn: u64,
-    place: KeyPlace,
+    place: SidePlace,
     row: usize,
 ) -> usize
     requires side { place.side < side_count (net_of P.behaviour circuit.now) }
@@ -38,7 +38,7 @@ pub(crate) fn number_of<P: Primitive>(
 fn leading_places<P: Primitive>(
     alloc: Global,
     circuit: &Circuit<P>,
-) -> Result<List<KeyPlace>, NoMemory>
+) -> Result<List<SidePlace>, NoMemory>
     ensures { let net = net_of P.behaviour circuit.now in
         IfOk result (λ places. (turn : ℕ) → map (position_of net turn) places
         ≡ leading_positions turn (all_sides net.primitives) 0) }
@@ -47,7 +47,7 @@ fn leading_places<P: Primitive>(
     for side in 0..circuit.sides() {
         if circuit.leads(side) {
             let number = Number::Class;
-            places.push(KeyPlace { side, number })?;
+            places.push(SidePlace { side, number })?;
         }
     }
     Ok(places)
@@ -57,7 +57,7 @@ fn leading_places<P: Primitive>(
 fn class_places<P: Primitive>(
     alloc: Global,
     circuit: &Circuit<P>,
-) -> Result<List<KeyPlace>, NoMemory>
+) -> Result<List<SidePlace>, NoMemory>
     ensures { let net = net_of P.behaviour circuit.now in
         IfOk result (λ places. (turn : ℕ) → map (position_of net turn) places
         ≡ class_positions turn (all_sides net.primitives) 0) }
@@ -65,13 +65,16 @@ fn class_places<P: Primitive>(
     let mut places = List::new(alloc);
     for side in 0..circuit.sides() {
         let number = Number::Class;
-        places.push(KeyPlace { side, number })?;
+        places.push(SidePlace { side, number })?;
     }
     Ok(places)
 }
 
 /// The places of the rows of all sides.
-fn row_places<P: Primitive>(alloc: Global, circuit: &Circuit<P>) -> Result<List<KeyPlace>, NoMemory>
+fn row_places<P: Primitive>(
+    alloc: Global,
+    circuit: &Circuit<P>,
+) -> Result<List<SidePlace>, NoMemory>
     ensures { let net = net_of P.behaviour circuit.now in
         IfOk result (λ places. (turn : ℕ) → map (position_of net turn) places
         ≡ row_positions (all_sides net.primitives) 0) }
@@ -79,7 +82,7 @@ fn row_places<P: Primitive>(alloc: Global, circuit: &Circuit<P>) -> Result<List<
     let mut places = List::new(alloc);
     for side in 0..circuit.sides() {
         let number = Number::Row;
-        places.push(KeyPlace { side, number })?;
+        places.push(SidePlace { side, number })?;
     }
     Ok(places)
 }
@@ -89,7 +92,7 @@ fn row_places<P: Primitive>(alloc: Global, circuit: &Circuit<P>) -> Result<List<
 pub fn key_places<P: Primitive>(
     alloc: Global,
     circuit: &Circuit<P>,
-) -> Result<List<KeyPlace>, NoMemory>
+) -> Result<List<SidePlace>, NoMemory>
     ensures { let net = net_of P.behaviour circuit.now in
         IfOk result (λ places. (turn : ℕ) → map (position_of net turn) places
         ≡ positions net turn) }

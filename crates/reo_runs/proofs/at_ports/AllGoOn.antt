@@ -1,7 +1,7 @@
 -- The components go on one by one.
 use Rattle.std.proofs.Common.{◌≡◌, ◌≢◌, ◌∙◌, inl, inr, ℕ, ◌+◌, ◌<◌, ◌≤◌, Bool, true, false, cond, List, length, refl, sym, ap, subst, arith}
 use Rattle.std.specs.Prelude.{Option, Some, None, nat_lt, nat_eq}
-use Rattle.std.proofs.lemmas.Bool.{cases_eq}
+use Rattle.std.proofs.lemmas.Bool.{cases_eq, cases_lt}
 use Rattle.std.proofs.lemmas.Bool.Decides.{nat_tests}
 use Rattle.std.proofs.lemmas.List.{ext_get_or, get_or-map, length-map}
 use Rattle.reo_net_base.specs.declared.port.Port.{Port}
@@ -14,7 +14,7 @@ use Rattle.reo_runs.specs.run_premises.Fitting.{FitPorts}
 use Rattle.reo_runs.specs.at_ports.Pending.{pending_at, held_at}
 use Rattle.reo_runs.specs.at_ports.Between.{AreAtPorts, AreBetween, AreStepped, NoneAsleepIsGone, is_gone, gone_on}
 use Rattle.reo_runs.specs.at_ports.Parts.{HasGoneOn, IsLeft, IsPendingOrGone}
-use Rattle.reo_runs.proofs.at_ports.Cases.{lt_cases, option_cases}
+use Rattle.reo_runs.proofs.at_ports.Cases.{option_cases}
 use Rattle.reo_runs.proofs.at_ports.AtPorts.{alone, in_range, rests_same}
 use Rattle.reo_runs.proofs.at_ports.GoneOn.{gone_alike, still_there, held_passed, passed_rest}
 
@@ -114,7 +114,7 @@ module _ (ports : List Port) (count done : ℕ) (old new : List Player) (before 
     has_later : (port i : ℕ) → i ≢ done → has_at newer (done + 1) i port ≡ has_at new done i port
     has_later port i ne =
         let same = on.others i ne in
-        elim (lt_cases i done) [
+        elim (cases_lt i done) [
           | inl less ↦ holds newer (done + 1) i port (omega arith) ∙ ap (held_at port) same ∙ sym (holds new done i port less)
           | inr le ↦ offers newer (done + 1) i port (omega arith) ∙ ap (offer_at port) same ∙ sym (offers new done i port le)
         ]
@@ -190,9 +190,9 @@ module _ (ports : List Port) (count : ℕ) (old new newer : List Player) (before
 
   rest_same : (i : ℕ) → (player_of newer i).rest ≡ (player_of new i).rest
   rest_same i =
-      elim (lt_cases i done) [
+      elim (cases_lt i done) [
         | inl less ↦ ap (λ (p : Player). p.rest) (passed.before i less)
-        | inr low ↦ elim (lt_cases i place) [
+        | inr low ↦ elim (cases_lt i place) [
           | inl high ↦ ap (λ (p : Player). p.rest) (passed.passed i low high) ∙ passed_rest (player_of new i) (passed.not_last i low high)
           | inr behind ↦ ap (λ (p : Player). p.rest) (passed.behind i behind)
         ]
@@ -200,9 +200,9 @@ module _ (ports : List Port) (count : ℕ) (old new newer : List Player) (before
 
   has_same : (port i : ℕ) → has_at newer place i port ≡ has_at new done i port
   has_same port i =
-      elim (lt_cases i done) [
+      elim (cases_lt i done) [
         | inl less ↦ holds newer place i port (omega (arith, on)) ∙ ap (held_at port) (passed.before i less) ∙ sym (holds new done i port less)
-        | inr low ↦ elim (lt_cases i place) [
+        | inr low ↦ elim (cases_lt i place) [
           | inl high ↦ holds newer place i port high ∙ held_is i low high port ∙ sym (offers new done i port low)
           | inr behind ↦ offers newer place i port behind ∙ ap (offer_at port) (passed.behind i behind) ∙ sym (offers new done i port low)
         ]
@@ -212,12 +212,12 @@ module _ (ports : List Port) (count : ℕ) (old new newer : List Player) (before
   pass_to = record {
     at_ports = record { count_is = are.at_ports.count_is; ports_are = are.at_ports.ports_are; fit = subst (FitPorts ports) (sym (rests_same new newer passed.count rest_same)) are.at_ports.fit };
     length_is = passed.count ∙ are.length_is;
-    gone = λ i less. elim (lt_cases i done) [
+    gone = λ i less. elim (cases_lt i done) [
       | inl first ↦ passed.before i first ∙ are.gone i first
       | inr low ↦ has_gone i low less
     ];
     waiting = λ i le. passed.behind i le ∙ are.waiting i (omega (arith, on));
-    held = λ port i o port_lt less lt is. elim (lt_cases i done) [
+    held = λ port i o port_lt less lt is. elim (cases_lt i done) [
       | inl first ↦ are.held port i o port_lt first (omega (arith, passed.count)) (ap (held_at port) (sym (passed.before i first)) ∙ is)
       | inr low ↦ is_held i low less port o is
     ];

@@ -1,12 +1,12 @@
 -- Components that fit the ports, and circuits that have them.
 use Rattle.std.proofs.Common.{◌≡◌, ◌≢◌, ◌∙◌, ◌||◌, inl, inr, ℕ, suc, ◌<◌, Bool, true, false, cond, List, [], ◌∷◌, length, map, sym, ap, subst, arith}
+use Rattle.std.proofs.Math.Bool.{or-true}
 use Rattle.std.specs.Prelude.{Option, Some, None, slice_index_or}
 use Rattle.std.specs.List.{All, list_any}
-use Rattle.std.proofs.lemmas.Bool.{cases_eq, true≢false}
+use Rattle.std.proofs.lemmas.Bool.{cases_eq, true≢false, cases_lt}
 use Rattle.std.proofs.lemmas.List.{ext_get_or, get_or-map, get_or_past, length-map}
 use Rattle.std.proofs.lemmas.List.Elements.{All-get_or, All-from_get_or}
 use Rattle.std.proofs.lemmas.Option.{slice_get_within}
-use Rattle.reo_values.proofs.Truths.{or_true}
 use Rattle.reo_net_base.specs.declared.port.Port.{Port}
 use Rattle.reo_net_base.specs.declared.port.Offer.{Offer}
 use Rattle.reo_net_base.specs.declared.port.Offer.TheVariants.{Write, Take}
@@ -22,7 +22,7 @@ use Rattle.reo_rounds.specs.Offering.{IsTakenAt}
 use Rattle.reo_runs.specs.at_ports.Pending.{pending_at}
 use Rattle.reo_runs.specs.at_ports.Between.{AreAtPorts, is_gone}
 use Rattle.reo_runs.specs.at_ports.Parts.{HasGoneOn}
-use Rattle.reo_runs.proofs.at_ports.Cases.{lt_cases, option_cases}
+use Rattle.reo_runs.proofs.at_ports.Cases.{option_cases}
 use Rattle.reo_runs.proofs.at_ports.Offered.{offers_of, named}
 
 -- What the components have left to do, each at its place.
@@ -143,7 +143,7 @@ module _ (flowed : Bool) (seen : ℕ) where
       let gone : Player = record { rest = ts; seen = 0 } in
       let stays : Player = record { rest = t ∷ ts; seen = one_more_seen t seen } in
       elim (flowed || runs_out t seen) as (λ b. list_any (names port) (cond b gone stays).rest ≡ true → list_any (names port) (t ∷ ts) ≡ true) [
-        | true ↦ λ any. ap (λ b. names port t || b) any ∙ or_true (names port t)
+        | true ↦ λ any. ap (λ b. names port t || b) any ∙ or-true (names port t)
         | false ↦ λ any. any
       ]
 
@@ -168,7 +168,7 @@ module _ (ports : List Port) (component : ℕ) (states : List PortState) (old ne
 
   names_before : (port i : ℕ) → names_in (rests_of new) port i ≡ true → names_in (rests_of old) port i ≡ true
   names_before port i any =
-      elim (lt_cases i (length new)) [
+      elim (cases_lt i (length new)) [
         | inl lt ↦ names_at old port i (omega (arith, on.count)) ∙ named_before port i (sym (names_at new port i lt) ∙ any)
         | inr le ↦ let none = ap (list_any (names port)) (get_or_past (rests_of new) i [] (omega (arith, length-map new (λ (p : Player). p.rest)))) in absurd (true≢false (sym any ∙ none))
       ]

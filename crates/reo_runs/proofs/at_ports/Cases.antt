@@ -1,7 +1,6 @@
 -- Cases of numbers and of options.
 use Rattle.std.proofs.Common.{◌≡◌, ◌⊎◌, inl, inr, Bool, true, false, cond, refl}
 use Rattle.std.specs.Prelude.{Option, Some, None}
-pub use Rattle.reo_net_circuit.proofs.Cases.{lt_cases}
 
 pub option_cases : {X : Type 0} (o : Option X) → (o ≡ None) ⊎ ((x : X) × (o ≡ Some x))
 option_cases None = inl refl

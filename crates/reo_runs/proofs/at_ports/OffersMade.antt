@@ -1,10 +1,9 @@
 -- The components make their offers one by one.
 use Rattle.std.proofs.Common.{◌≡◌, ◌≢◌, ◌∙◌, inl, inr, ℕ, zero, suc, ◌+◌, ◌-◌, ◌<◌, ◌≤◌, ⊎_elim, ◌||◌, Bool, true, false, cond, not, List, [], ◌∷◌, length, sym, ap, subst, arith}
 use Rattle.std.specs.Prelude.{Option, Some, None, is_some, nat_eq, nat_lt, slice_get}
-use Rattle.std.proofs.lemmas.Bool.{cases_eq}
+use Rattle.std.proofs.lemmas.Bool.{cases_eq, or_cases, not-true, not-false, and_parts, cases_lt}
 use Rattle.std.proofs.lemmas.Bool.Decides.{nat_tests}
 use Rattle.std.proofs.lemmas.Option.{slice_get_within, get_or_from_slice_get, slice_get-get_or}
-use Rattle.reo_values.proofs.Truths.{either, not_true, not_false, and_right}
 use Rattle.reo_net_base.specs.declared.port.Port.{Port}
 use Rattle.reo_net_base.specs.declared.port.Offer.{Offer}
 use Rattle.reo_net_base.specs.PortState.{PortState}
@@ -16,7 +15,7 @@ use Rattle.reo_players.specs.Offers.{offer_at, offer_for, OffersAgree}
 use Rattle.reo_runs.specs.at_ports.Pending.{pending_at, held_at, ArePending}
 use Rattle.reo_runs.specs.at_ports.Between.{AreBetween, AreStarted}
 use Rattle.reo_runs.specs.at_ports.Parts.{offered_at, AreOffering}
-use Rattle.reo_runs.proofs.at_ports.Cases.{lt_cases, none_either}
+use Rattle.reo_runs.proofs.at_ports.Cases.{none_either}
 use Rattle.reo_runs.proofs.at_ports.Offered.{elsewhere}
 use Rattle.reo_runs.proofs.at_ports.AtPorts.{apart, alone, in_range, ports_stay}
 
@@ -40,7 +39,7 @@ module _ (players : List Player) where
 
   others_alike : (n i port : ℕ) → i ≢ n → offered_at players (n + 1) i port ≡ offered_at players n i port
   others_alike n i port ne =
-      elim (lt_cases i n) [
+      elim (cases_lt i n) [
         | inl lt ↦ has_offered (n + 1) i port (omega arith) ∙ sym (has_offered n i port lt)
         | inr le ↦ holds (n + 1) i port (omega arith) ∙ sym (holds n i port le)
       ]
@@ -53,7 +52,7 @@ module _ (players : List Player) where
 
   nothing_offered : (n port i : ℕ) → offer_at port (player_of players i) ≡ None → offered_at players n i port ≡ None
   nothing_offered n port i none =
-      elim (lt_cases i n) [
+      elim (cases_lt i n) [
         | inl lt ↦ has_offered n i port lt ∙ none
         | inr le ↦ holds n i port le ∙ nothing_held port i none
       ]
@@ -65,7 +64,7 @@ seen_offered p seen port = ap (λ b. cond b None (offer_at port p)) seen
 idle_rest : (port : ℕ) (rest : List Task) (seen : ℕ) → is_idle (record { rest = rest; seen = seen }) ≡ true → held_at port (record { rest = rest; seen = seen }) ≡ offer_at port (record { rest = rest; seen = seen })
 idle_rest port [] seen idle = none_either (nat_eq seen 0)
 idle_rest port (t ∷ ts) seen idle =
-    let once : nat_eq seen 1 ≡ true = and_right (not (is_some (bound_of t))) (nat_eq seen 1) idle in
+    let once : nat_eq seen 1 ≡ true = (and_parts (not (is_some (bound_of t))) (nat_eq seen 1) idle).1 in
     let not_none : nat_eq seen 0 ≡ false = grind (arith, nat_tests) in
     seen_offered (record { rest = t ∷ ts; seen = seen }) not_none port
 
@@ -73,8 +72,8 @@ idle_rest port (t ∷ ts) seen idle =
 pub asleep_offered : (p : Player) → is_awake p ≡ false → (port : ℕ) → held_at port p ≡ offer_at port p
 asleep_offered p asleep port =
     ⊎_elim (λ idle. idle_rest port p.rest p.seen idle)
-    (λ waiting. seen_offered p (not_true (nat_eq p.seen 0) (and_right (counts p) (not (nat_eq p.seen 0)) waiting)) port)
-    (either (is_idle p) (waits p) (not_false (is_idle p || waits p) asleep))
+    (λ waiting. seen_offered p (not-true (nat_eq p.seen 0) ((and_parts (counts p) (not (nat_eq p.seen 0)) waiting).1)) port)
+    (or_cases (is_idle p) (waits p) (not-false (is_idle p || waits p) asleep))
 
 -- A component that has nothing to add, as a round has seen its offer or it makes none.
 pub pass_over : (ports : List Port) (count n : ℕ) (players : List Player) (states : List PortState) → ((port : ℕ) → held_at port (player_of players n) ≡ offer_at port (player_of players n))

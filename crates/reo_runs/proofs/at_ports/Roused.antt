@@ -2,10 +2,9 @@
 use Rattle.std.proofs.Common.{◌≡◌, ◌∙◌, inl, inr, ⊎_elim, ℕ, ◌+◌, ◌<◌, true, false, not, ◌||◌, List, length, refl, sym, ap, subst, arith}
 use Rattle.std.specs.Prelude.{Some, None, is_none, nat_eq, slice_get, option_and_then}
 use Rattle.std.specs.Option.{option_map_or}
-use Rattle.std.proofs.lemmas.Bool.{cases_eq}
+use Rattle.std.proofs.lemmas.Bool.{cases_eq, or_cases, both_ways, not-true, not-false, and_parts}
 use Rattle.std.proofs.lemmas.List.{ext_get_or, get_or-map, length-map}
 use Rattle.std.proofs.lemmas.Option.{slice_get_within}
-use Rattle.reo_values.proofs.Truths.{either, no_both, not_true, not_false, and_right}
 use Rattle.reo_net_base.specs.declared.colouring.Move.{Move}
 use Rattle.reo_net_base.specs.declared.port.Port.{Port}
 use Rattle.reo_net_base.specs.PortState.{PortState}
@@ -150,8 +149,8 @@ module _ (moves : List Move) (old new : List Player) (states : List PortState) (
       let zeroth = roused_at i named.0 (omega (arith, are.count)) was named.2 in
       ⊎_elim
       (λ idle. let once = idle_seen (player_of new i) named.0 idle named.1 in omega (arith, zeroth, once))
-      (λ waiting. no_both (nat_eq (player_of new i).seen 0) (ap (λ n. nat_eq n 0) zeroth) (not_true (nat_eq (player_of new i).seen 0) (and_right (counts (player_of new i)) (not (nat_eq (player_of new i).seen 0)) waiting)))
-      (either (is_idle (player_of new i)) (waits (player_of new i)) (not_false (is_idle (player_of new i) || waits (player_of new i)) asleep))
+      (λ waiting. both_ways (nat_eq (player_of new i).seen 0) (not-true (nat_eq (player_of new i).seen 0) ((and_parts (counts (player_of new i)) (not (nat_eq (player_of new i).seen 0)) waiting).1)) (ap (λ n. nat_eq n 0) zeroth))
+      (or_cases (is_idle (player_of new i)) (waits (player_of new i)) (not-false (is_idle (player_of new i) || waits (player_of new i)) asleep))
 
   pub none_skipped : NoneAsleepIsGone new states
   none_skipped i lt asleep =

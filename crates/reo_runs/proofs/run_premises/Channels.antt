@@ -10,7 +10,7 @@ use Rattle.reo_trees.specs.declared.programs.Declaration.TheVariants as declarat
 use Rattle.reo_rules.specs.Lists.{each_after}
 use Rattle.reo_rules.specs.Types.{Typed}
 use Rattle.reo_flat.specs.Unfolding.{Placed, Meaning, no_meaning, meaning_named, meaning_of, meanings_after, meanings_of, channels_in}
-use Rattle.reo_flat.proofs.flatten_laws.Each.{both}
+use Rattle.reo_runs.proofs.Each.{both}
 use Rattle.reo_runs.proofs.run_premises.NoPorts.{IsNoPort, of_channel}
 
 -- What is placed is no port.

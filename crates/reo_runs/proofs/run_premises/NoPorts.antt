@@ -20,7 +20,7 @@ use Rattle.reo_flat.specs.Unfolding.{Placed}
 use Rattle.reo_flat.specs.Ends.{incoming, outgoing}
 use Rattle.reo_flat.specs.Joints.{is_many}
 use Rattle.reo_flat.specs.Flat.{branched, branched_with, own_kinds}
-use Rattle.reo_flat.proofs.flatten_laws.Each.{both}
+use Rattle.reo_runs.proofs.Each.{both}
 
 abbrev pub IsNoPort : Kind → Type 0
 IsNoPort k = port_state_of k ≡ no_port_state

@@ -1,9 +1,8 @@
 -- How many primitives there are, round by round and in a program.
 use Rattle.std.proofs.Common.{◌≡◌, ◌||◌, ℕ, suc, ◌≤◌, List, [], ◌∷◌, refl, ap, length, codes}
+use Rattle.std.proofs.lemmas.Bool.{ltb-false, or_parts}
 use Rattle.std.specs.Prelude.{Option, nat_lt}
 use Rattle.reo_values.specs.declared.value.Value.{Value}
-use Rattle.reo_values.proofs.Naturals.{not_below}
-use Rattle.reo_values.proofs.Truths.{either_false}
 use Rattle.reo_net_base.specs.declared.colouring.Chosen.{Chosen}
 use Rattle.reo_net_base.specs.declared.port.Offer.{Offer}
 use Rattle.reo_net_base.specs.Net.{Wiring, net_of}
@@ -41,4 +40,4 @@ pub program_count : (ds : List Declaration) → too_many ds ≡ [] → length (p
 program_count ds none =
     let m = meaning_named (meanings_of ds) (codes "main") in
     let all = none_true (is_too_many ds m) faults.TooMany none in
-    not_below 4096 (length (primitives_of ds)) (either_false (nat_lt 4096 (length (primitives_of ds))) (nat_lt 65536 m.uses) (either_false (nat_lt 4096 (length (primitives_of ds)) || nat_lt 65536 m.uses) (nat_lt 64 m.depth) all))
+    ltb-false 4096 (length (primitives_of ds)) ((or_parts (nat_lt 4096 (length (primitives_of ds))) (nat_lt 65536 m.uses) ((or_parts (nat_lt 4096 (length (primitives_of ds)) || nat_lt 65536 m.uses) (nat_lt 64 m.depth) all).0)).0)

@@ -19,7 +19,7 @@ use Rattle.reo_net_base.specs.Wired.{IsWired, IsEnd}
 use Rattle.reo_net_base.proofs.Marks.{mark_flows}
 use Rattle.reo_net_base.proofs.Ends.{at_joint}
 use Rattle.reo_net_laws.proofs.Orders.{no_joint}
-use Rattle.reo_net_laws.proofs.Sides.{row_below, side_in, side_is}
+use Rattle.reo_runs.proofs.Sides.{row_below, side_in, side_is}
 use Rattle.reo_trace.specs.declared.line.Cell.TheVariants.{Row, Jam}
 use Rattle.reo_trace.specs.declared.line.Entry.TheVariants.{One, Two}
 use Rattle.reo_trace.specs.Entries.{cell_of, entry_of, entry_at, entries_of, is_idle}

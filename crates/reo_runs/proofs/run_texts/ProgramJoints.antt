@@ -17,7 +17,7 @@ use Rattle.reo_flat.specs.Joints.{is_many, many, end_range, pairs, joints_betwee
 use Rattle.reo_flat.specs.Flat.{joints_at}
 use Rattle.reo_flat.specs.flatten_laws.Homes.{IsAtNode}
 use Rattle.reo_flat.proofs.flatten_laws.AtNodes.{incoming_at, outgoing_at}
-use Rattle.reo_flat.proofs.flatten_laws.Each.{both, each_of, all_to}
+use Rattle.reo_runs.proofs.Each.{both, each_of, all_to}
 use Rattle.reo_flat.proofs.flatten_laws.ServedItems.{both_of}
 use Rattle.reo_runs.proofs.run_texts.Keeping.{EndTypes}
 use Rattle.reo_runs.proofs.run_texts.TypedItems.{no_types, type_at, JointsAgree}

@@ -13,7 +13,7 @@ use Rattle.reo_flat.specs.Ends.{incoming, outgoing}
 use Rattle.reo_flat.specs.Joints.{is_many}
 use Rattle.reo_flat.specs.Flat.{branched, branched_with, own_kinds}
 use Rattle.reo_flat.specs.flatten_laws.Fitting.{Fits}
-use Rattle.reo_flat.proofs.flatten_laws.Each.{by_recursion}
+use Rattle.reo_runs.proofs.Each.{by_recursion}
 use Rattle.reo_flat.proofs.flatten_laws.TypedNodes.{FitsAt}
 use Rattle.reo_runs.proofs.run_texts.Keeping.{EndTypes}
 use Rattle.reo_runs.proofs.run_texts.RightKinds.{IsRight}

@@ -11,7 +11,7 @@ use Rattle.reo_trees.specs.declared.programs.Declaration.{Declaration}
 use Rattle.reo_flat.specs.Flat.{net_of_program, primitives_of}
 use Rattle.reo_flat.specs.flatten_laws.Circuits.{IsMade}
 use Rattle.reo_rounds.specs.Order.{HasOrder}
-use Rattle.reo_rounds.proofs.OrderLemmas.{KeepsShape}
+use Rattle.reo_rounds.specs.Lasting.{KeepsShape}
 use Rattle.reo_runs.specs.run_texts.Laws.{kind_rules}
 
 -- The kinds keep their laws and their shapes.

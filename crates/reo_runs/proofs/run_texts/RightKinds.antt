@@ -21,7 +21,7 @@ use Rattle.reo_kinds.specs.Items.{offer_fits}
 use Rattle.reo_kinds.specs.Rules.{image}
 use Rattle.reo_kinds.specs.Kinds.{behaviour_of, unoffered, given_away, put_in, shift_in, replaced, after, first_flows, second_flows, settled_kind, offering_if, placed_kind, withdrawn_kind}
 use Rattle.reo_runs.specs.run_texts.Laws.{kind_rules}
-use Rattle.reo_flat.proofs.flatten_laws.Each.{both}
+use Rattle.reo_runs.proofs.Each.{both}
 use Rattle.reo_runs.proofs.run_texts.Keeping.{EndTypes, GivesRight, MouthIsFirst, KeepsTypes}
 
 -- All of these items are of a type.

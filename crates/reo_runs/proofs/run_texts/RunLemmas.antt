@@ -26,8 +26,9 @@ use Rattle.reo_rounds.specs.EngineRound.{EngineRound}
 use Rattle.reo_runs.specs.Round.{net_ready}
 use Rattle.reo_runs.specs.Run.{Place, Leads, EndsAs, IsRun, start_of, over_after, place_after, firsts}
 use Rattle.reo_rounds.specs.Order.{HasOrder}
-use Rattle.reo_rounds.proofs.OrderLemmas.{KeepsShape, ready_order, round_order}
-use Rattle.reo_flat.proofs.flatten_laws.Each.{each_of}
+use Rattle.reo_rounds.specs.Lasting.{KeepsShape}
+use Rattle.reo_rounds.proofs.OrderLemmas.{ready_order, round_order}
+use Rattle.reo_runs.proofs.Each.{each_of}
 use Rattle.reo_runs.proofs.run_texts.Keeping.{EndTypes, KeepsTypes}
 use Rattle.reo_runs.proofs.run_texts.TypedItems.{type_at, IsTyped, items_typed, end_typed}
 use Rattle.reo_runs.proofs.run_texts.TypedRounds.{ready_typed, stepped_right}

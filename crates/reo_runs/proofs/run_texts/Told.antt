@@ -13,7 +13,7 @@ use Rattle.reo_syntax_laws.specs.trees_laws.Spelled.{IsSpelledParameter, IsSpell
 use Rattle.reo_rules.specs.Types.{Typed}
 use Rattle.reo_rules.specs.Scopes.{connectors_of, connector_named, parameters_named, parameter_type}
 use Rattle.reo_flat.specs.Flat.{port_of, main_parameters}
-use Rattle.reo_flat.proofs.flatten_laws.Each.{by_recursion}
+use Rattle.reo_runs.proofs.Each.{by_recursion}
 
 -- The parameters of each connector are spelled.
 abbrev HasSpelled : Connector → Type 0

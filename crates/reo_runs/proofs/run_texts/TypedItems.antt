@@ -18,7 +18,7 @@ use Rattle.reo_net_base.specs.Wired.{IsWired, IsOrder}
 use Rattle.reo_net_base.proofs.Ends.{at_joint}
 use Rattle.reo_net_laws.proofs.Items.{along_order}
 use Rattle.reo_net_laws.proofs.Orders.{no_joint, Feeds}
-use Rattle.reo_net_laws.proofs.Sides.{gives_at, row_in_table, row_below, side_in_range, same_side_at}
+use Rattle.reo_runs.proofs.Sides.{gives_at, row_in_table, row_below, side_in_range, same_side_at}
 use Rattle.reo_rounds.specs.Rules.{Rules}
 use Rattle.reo_runs.proofs.run_texts.Keeping.{EndTypes, GivesRight, KeepsTypes}
 use Rattle.reo_runs.proofs.run_texts.Lists.{taken_from, first_passes}

@@ -10,7 +10,7 @@ use Rattle.reo_net_base.specs.Net.{Net, no_side, all_sides, behaviour_at, row_at
 use Rattle.reo_net_base.specs.Sides.{AreRowsOf}
 use Rattle.reo_net_laws.proofs.Items.{given_fed, along_order}
 use Rattle.reo_net_laws.proofs.Orders.{no_joint}
-use Rattle.reo_net_laws.proofs.Sides.{row_below, side_in_range, row_in_table}
+use Rattle.reo_runs.proofs.Sides.{row_below, side_in_range, row_in_table}
 use Rattle.reo_net.proofs.colouring.ItemLemmas.{flow_cases}
 use Rattle.reo_rounds.specs.Order.{HasOrder}
 

@@ -15,7 +15,7 @@ use Rattle.reo_net_base.specs.Colouring.{taken_at, given_at, item_given, lets_in
 use Rattle.reo_net_base.specs.Wired.{IsWired, IsOrder, IsEnd}
 use Rattle.reo_net_base.proofs.Marks.{giver_flows}
 use Rattle.reo_net_laws.proofs.Items.{end_is, along_order, end_same}
-use Rattle.reo_net_laws.proofs.Sides.{row_below, side_in_range, row_in_table, row_is, same_side_at, gives_at}
+use Rattle.reo_runs.proofs.Sides.{row_below, side_in_range, row_in_table, row_is, same_side_at, gives_at}
 use Rattle.reo_checker.specs.Faults.{ItemFails, IsItemFault}
 use Rattle.reo_runs.specs.verdicts.Laws.{RefusedItemsAreNotLetIn}
 

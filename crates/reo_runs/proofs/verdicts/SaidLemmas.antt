@@ -12,7 +12,7 @@ use Rattle.reo_net_base.specs.Net.{Net, no_side, all_sides, behaviour_at, first_
 use Rattle.reo_net_base.specs.Sides.{AreRowsOf}
 use Rattle.reo_net_base.specs.Step.{chosen_for}
 use Rattle.reo_net_base.specs.Wired.{IsWired}
-use Rattle.reo_net_laws.proofs.Sides.{owner_of, rows_length, row_below, side_in, side_is}
+use Rattle.reo_runs.proofs.Sides.{owner_of, rows_length, row_below, side_in, side_is}
 use Rattle.reo_trace.specs.declared.line.Cell.{Cell}
 use Rattle.reo_trace.specs.declared.line.Cell.TheVariants.{Row, Jam}
 use Rattle.reo_trace.specs.declared.line.Entry.{Entry}

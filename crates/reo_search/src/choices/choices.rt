@@ -7,10 +7,10 @@ ghost use Rattle.reo_propagate.specs.Basis.{IsSearchOn};
 ghost use Rattle.reo_search.specs.choices.Remaining.{choices_of};
 ghost use Rattle.reo_search.specs.choices.Trying.{HasCodes, IsFirstOf, AreSingles, MayRestartOn};
 ghost use Rattle.reo_search.specs.choices.Best.{IsBetter};
-ghost use Rattle.reo_search.specs.choices.Searched.{IsSearched, IsLeftIn, IsFront, inside_of, names_in};
+ghost use Rattle.reo_search.specs.choices.KnotSearch.{IsSearched, IsLeftIn, IsFront, inside_of, names_in};
 
 use crate::choices::best::keep;
-use crate::choices::searched::Searched;
+use crate::choices::knot_search::KnotSearch;
 use crate::choices::trying::{decides, narrow_to, try_front};
 use reo_net_base::Primitive;
 use reo_propagate::State;
@@ -22,7 +22,7 @@ use std::sync::ledger::Ledger;
 /// Keeps the numbers of the first assignment that has these values at the loop joints, where there
 /// is one and it stands before the best so far. It ticks at most once. `NoMemory` is out of memory.
 fn try_choice<P: Primitive, L: Ledger>(
-    searched: &Searched<'_, P>,
+    searched: &KnotSearch<'_, P>,
     state: &mut State,
     codes: &[usize],
     best: &mut Option<List<usize>>,
@@ -78,7 +78,7 @@ fn push_single(left: &List<List<usize>>, codes: &mut List<usize>) -> Result<(), 
 /// it, and where a walk settles all, the choices behind it are not looked at. It ticks at most once
 /// for each choice that there is. `NoMemory` is out of memory.
 fn improve<P: Primitive, L: Ledger>(
-    searched: &Searched<'_, P>,
+    searched: &KnotSearch<'_, P>,
     state: &mut State,
     left: &List<List<usize>>,
     codes: &mut List<usize>,
@@ -125,7 +125,7 @@ fn improve<P: Primitive, L: Ledger>(
 /// The numbers of the first assignment, or `None` exactly where there is none. It ticks at most
 /// once for each choice of what is left at the loop joints. `NoMemory` is out of memory.
 pub(crate) fn first_over<P: Primitive, L: Ledger>(
-    searched: &Searched<'_, P>,
+    searched: &KnotSearch<'_, P>,
     state: &mut State,
     left: &List<List<usize>>,
     steps: &mut Steps<L>,

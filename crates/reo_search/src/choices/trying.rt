@@ -7,11 +7,11 @@ ghost use Rattle.reo_propagate.specs.Basis.{IsSearchOn};
 ghost use Rattle.reo_search.specs.choices.Remaining.{choices_of};
 ghost use Rattle.reo_search.specs.choices.Trying.{HasCodes, AreLeftWith, IsOpen, MayRestartOn};
 ghost use Rattle.reo_search.specs.choices.Best.{IsBetter};
-ghost use Rattle.reo_search.specs.choices.Searched.{IsSearched, IsFront, inside_of, names_in};
+ghost use Rattle.reo_search.specs.choices.KnotSearch.{IsSearched, IsFront, inside_of, names_in};
 
 use crate::choices::best::{is_before, keep};
 use crate::choices::kept::{have_one, kept_of};
-use crate::choices::searched::Searched;
+use crate::choices::knot_search::KnotSearch;
 use reo_net_base::Primitive;
 use reo_propagate::{State, propagate, restart};
 use reo_steps::Steps;
@@ -22,7 +22,7 @@ use std::sync::ledger::Ledger;
 /// Begins anew with these values alone at the first loop joints, and narrows. `NoMemory` is out of
 /// memory.
 pub(crate) fn narrow_to<P: Primitive>(
-    searched: &Searched<'_, P>,
+    searched: &KnotSearch<'_, P>,
     state: &mut State,
     codes: &[usize],
 ) -> Result<(), NoMemory>
@@ -49,7 +49,7 @@ pub(crate) fn narrow_to<P: Primitive>(
 /// looked for: that is so too where nothing of it can stand before the best. It ticks at most once,
 /// and where it answers `false` it has only looked. `NoMemory` is out of memory.
 pub(crate) fn decides<P: Primitive, L: Ledger>(
-    searched: &Searched<'_, P>,
+    searched: &KnotSearch<'_, P>,
     state: &mut State,
     best: &mut Option<List<usize>>,
     steps: &mut Steps<L>,
@@ -96,7 +96,7 @@ pub(crate) fn decides<P: Primitive, L: Ledger>(
 /// more is to be looked for with them, and else what is left at the loop joints; nothing was kept
 /// then. `NoMemory` is out of memory.
 pub(crate) fn try_front<P: Primitive, L: Ledger>(
-    searched: &Searched<'_, P>,
+    searched: &KnotSearch<'_, P>,
     state: &mut State,
     left: &List<List<usize>>,
     codes: &[usize],

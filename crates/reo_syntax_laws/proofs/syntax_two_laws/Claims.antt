@@ -8,7 +8,7 @@ use Rattle.reo_trees.specs.declared.items_two.ItemTwo.{ItemTwo}
 use Rattle.reo_trees.specs.Forms.{Rule, tree_of, FormOf}
 use Rattle.reo_trees.specs.Forms.Rule.{type_rule, literal_rule, term_rule, unary_rule, looped_rule}
 use Rattle.reo_syntax.proofs.Claims.{Again, Claim}
-use Rattle.reo_syntax.proofs.Seen.{World}
+use Rattle.reo_syntax_laws.proofs.Seen.{World}
 use Rattle.reo_syntax.proofs.Items.{Fit}
 use Rattle.reo_syntax.specs.two.ItemText.{form_text}
 use Rattle.reo_syntax_laws.specs.syntax_two_laws.Unlined.{bare_item}

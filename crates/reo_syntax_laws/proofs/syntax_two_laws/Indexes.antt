@@ -1,9 +1,9 @@
 -- Indexes, and names of nodes with a place, are printed so that their text says them.
 use Rattle.std.proofs.Common.{◌≡◌, ℕ, zero, suc, ◌^◌, ◌<◌, Bool, true, false, Option, Some, None, List, [], ◌∷◌, ◌++◌, refl, sym, ◌∙◌, ap, subst, arith, append-nil, codes}
+use Rattle.std.proofs.lemmas.List.{map-id}
+use Rattle.std.proofs.lemmas.Bool.{and_parts}
 use Rattle.std.specs.List.{flat_map}
 use Rattle.std.specs.Fmt.{decimal}
-use Rattle.reo_values.proofs.Truths.{and_left}
-use Rattle.reo_values.proofs.Sequences.{map_same}
 use Rattle.reo_grammar.specs.declared.kind.TokenKind.TheVariants as kinds
 use Rattle.reo_grammar.specs.Tokens.{Lexeme, matches, is_real, number_from}
 use Rattle.reo_grammar.specs.Tokens.Class.{fixed, number}
@@ -19,11 +19,11 @@ use Rattle.reo_trees.specs.Forms.{comma_form}
 use Rattle.reo_trees.specs.Indexes.{most_place, unit_form, unsigned, sign_form, further_units, index_form, one_unit, place_form, placed_form, ref_form}
 use Rattle.reo_syntax.specs.Spread.{spread}
 use Rattle.reo_syntax.proofs.Row.{is_apart}
-use Rattle.reo_syntax.proofs.Again.{Out, out-both, out-left, out-right, out-made, out-nothing, out-text, out-word, out-word-as, out-name, out-gap, out-weaker}
+use Rattle.reo_syntax_laws.proofs.Again.{Out, out-both, out-left, out-right, out-made, out-nothing, out-text, out-word, out-word-as, out-name, out-gap, out-weaker}
 use Rattle.reo_syntax.proofs.Decimals.{decimal-value}
 use Rattle.reo_syntax.proofs.Cuts.{open-cut, close-cut, apart-loose, name-cut}
 use Rattle.reo_syntax.proofs.Claims.{Again}
-use Rattle.reo_syntax.proofs.Seen.{World, See, see-then, see-both, see-made, see-either, see-word, see-word-as, see-token, see-nothing}
+use Rattle.reo_syntax_laws.proofs.Seen.{World, See, see-then, see-both, see-made, see-either, see-word, see-word-as, see-token, see-nothing}
 use Rattle.reo_syntax.proofs.Lists.{see-comma}
 use Rattle.reo_syntax.proofs.Types.{bare-number}
 use Rattle.reo_syntax.proofs.Levels.{out-grouped}
@@ -37,7 +37,7 @@ pub record UnitOut (ts : List Lexeme) (u : IndexUnit) : Type 0 where
 
 number-starts : (t : Lexeme) → matches (number 0 most_place) t ≡ true → is_real t ≡ true → starts_well (decimal (number_from 0 t.bytes)) ≡ true
 number-starts t m q =
-    let b : number_from 0 t.bytes < 10 ^ 18 = real-number-below t (number-kind t.kind (and_left _ _ m)) q in
+    let b : number_from 0 t.bytes < 10 ^ 18 = real-number-below t (number-kind t.kind ((and_parts _ _ m).0)) q in
     digits-start (decimal (number_from 0 t.bytes)) (decimal-value (number_from 0 t.bytes) (omega arith)).0
 
 see-unit : {w : World} → See w unit_form UnitOut
@@ -169,4 +169,4 @@ SameRefs x y = x ≡ y
 
 -- One or more, with commas between them.
 pub see-refs : {w : World} → See w (comma_form ref_form) (Again (comma_form ref_form) (spread ref_text) SameRefs)
-see-refs = see-then (see-comma see-ref) (λ ts xs p r h. out-weaker (SameRefs xs) (p.again r h) (λ ys e. sym (map_same xs) ∙ e ∙ map_same ys))
+see-refs = see-then (see-comma see-ref) (λ ts xs p r h. out-weaker (SameRefs xs) (p.again r h) (λ ys e. sym (map-id xs) ∙ e ∙ map-id ys))

@@ -29,11 +29,11 @@ use Rattle.reo_syntax.specs.TermText.{term_text}
 use Rattle.reo_syntax.specs.ItemText.{channel_head, channel_tail, held_text}
 use Rattle.reo_syntax.specs.Unlined.{bare_type, bare_literal, bare_term, bare_held, bare_channel}
 use Rattle.reo_syntax.proofs.Row.{is_apart, apart-cut}
-use Rattle.reo_syntax.proofs.Again.{Out, out-both, out-left, out-right, out-made, out-nothing, out-text, out-word, out-word-as, out-name, out-gap, out-behind}
+use Rattle.reo_syntax_laws.proofs.Again.{Out, out-both, out-left, out-right, out-made, out-nothing, out-text, out-word, out-word-as, out-name, out-gap, out-behind}
 use Rattle.reo_syntax.proofs.Decimals.{out-number}
 use Rattle.reo_syntax.proofs.Cuts.{open-cut, close-cut}
 use Rattle.reo_syntax.proofs.Claims.{Again, SameType, SameTerm, Claim}
-use Rattle.reo_syntax.proofs.Seen.{World, See, see-then, see-both, see-made, see-either, see-word, see-word-as, see-token, see-nothing}
+use Rattle.reo_syntax_laws.proofs.Seen.{World, See, see-then, see-both, see-made, see-either, see-word, see-word-as, see-token, see-nothing}
 use Rattle.reo_syntax.proofs.Types.{see-type}
 use Rattle.reo_syntax.proofs.Atoms.{see-term}
 use Rattle.reo_syntax.proofs.Levels.{term-out}

@@ -1,11 +1,10 @@
 -- Items, loops among them, are printed so that their text says them.
 use Rattle.std.proofs.Common.{◌≡◌, ℕ, true, List, [], ◌∷◌, ◌++◌, map, refl, sym, ◌∙◌, ap, subst, append_assoc, codes}
+use Rattle.std.proofs.lemmas.Bool.{and_parts, and_from}
 use Rattle.std.specs.List.{list_all}
-use Rattle.reo_values.proofs.Truths.{and_left, and_right}
 use Rattle.reo_grammar.specs.Tokens.{Lexeme}
 use Rattle.reo_grammar.specs.Grammar.{line_of}
 use Rattle.reo_grammar.specs.Grammar.Grammar.{rule}
-use Rattle.reo_grammar.proofs.Sound.{and-both}
 use Rattle.reo_lexer.specs.Gaps.{is_space}
 use Rattle.reo_trees.specs.declared.indexes.Index.{Index}
 use Rattle.reo_trees.specs.declared.items_two.ItemTwo.{ItemTwo}
@@ -14,9 +13,9 @@ use Rattle.reo_trees.specs.declared.items_two.FormTwo.TheVariants as forms
 use Rattle.reo_trees.specs.Forms.{FormOf}
 use Rattle.reo_trees.specs.Forms.Rule.{looped_rule}
 use Rattle.reo_trees.specs.ItemsTwo.{looped_items, loop_form, some_looped, looped_form, some_item_two, item_two, items_two}
-use Rattle.reo_syntax.proofs.Again.{Out, out-both, out-more, out-first, out-left, out-right, out-lined, out-nothing, out-rule, out-text, out-word, out-gap, out-behind}
+use Rattle.reo_syntax_laws.proofs.Again.{Out, out-both, out-more, out-first, out-left, out-right, out-lined, out-nothing, out-rule, out-text, out-word, out-gap, out-behind}
 use Rattle.reo_syntax.proofs.Cuts.{brace-cut}
-use Rattle.reo_syntax.proofs.Seen.{World, See, see-then, see-both, see-made, see-either, see-lined, see-rule, see-word, see-token, see-chain, see-nothing}
+use Rattle.reo_syntax_laws.proofs.Seen.{World, See, see-then, see-both, see-made, see-either, see-lined, see-rule, see-word, see-token, see-chain, see-nothing}
 use Rattle.reo_syntax.proofs.Lists.{flat-snoc, map-snoc}
 use Rattle.reo_syntax.proofs.Items.{apart-name}
 use Rattle.reo_syntax.specs.two.IndexText.{index_text}
@@ -31,8 +30,8 @@ use Rattle.reo_syntax_laws.proofs.syntax_two_laws.Claims.{SameItem, PrintedItem,
 
 spaces-more : (indent : List ℕ) → list_all is_space indent ≡ true → list_all is_space (indent ++ codes "  ") ≡ true
 spaces-more [] h = refl
-spaces-more (b ∷ indent) h = and-both (is_space b) (list_all is_space (indent ++ codes "  ")) (and_left (is_space b) (list_all is_space indent) h)
-    (spaces-more indent (and_right (is_space b) (list_all is_space indent) h))
+spaces-more (b ∷ indent) h = and_from (is_space b) (list_all is_space (indent ++ codes "  ")) ((and_parts (is_space b) (list_all is_space indent) h).0)
+    (spaces-more indent ((and_parts (is_space b) (list_all is_space indent) h).1))
 
 abbrev pub SameItems : List ItemTwo → List ItemTwo → Type 0
 SameItems x y = map bare_item x ≡ map bare_item y

@@ -1,10 +1,10 @@
 -- Programs of version 2 are printed so that their text says them.
 use Rattle.std.proofs.Common.{◌≡◌, ℕ, zero, suc, ◌≤◌, ◌&&◌, true, Option, Some, None, List, [], ◌∷◌, ◌++◌, map, refl, sym, ◌∙◌, ap, append-nil, arith, codes, nat_le}
+use Rattle.std.proofs.lemmas.Bool.{and_parts}
 use Rattle.std.specs.List.{flat_map}
 use Rattle.std.specs.Fmt.{decimal}
 use Rattle.std.proofs.lemmas.Bool.Decides.{nat_tests}
 use Rattle.std.proofs.lemmas.Fmt.{decimal_digit}
-use Rattle.reo_values.proofs.Truths.{and_left, and_right}
 use Rattle.reo_grammar.specs.declared.kind.TokenKind.TheVariants as kinds
 use Rattle.reo_grammar.specs.Tokens.{Lexeme, AreReal, matches, is_number, is_real, number_from}
 use Rattle.reo_grammar.specs.Tokens.Class.{named, number}
@@ -26,11 +26,11 @@ use Rattle.reo_syntax.specs.TypeText.{type_text}
 use Rattle.reo_syntax.specs.Canonical.{parameter_text}
 use Rattle.reo_syntax.specs.Unlined.{bare_type, bare_parameter}
 use Rattle.reo_syntax.proofs.Row.{apart-cut}
-use Rattle.reo_syntax.proofs.Again.{Out, out-both, out-more, out-first, out-left, out-right, out-made, out-lined, out-nothing, out-text, out-word, out-name, out-gap}
+use Rattle.reo_syntax_laws.proofs.Again.{Out, out-both, out-more, out-first, out-left, out-right, out-made, out-lined, out-nothing, out-text, out-word, out-name, out-gap}
 use Rattle.reo_syntax.proofs.Decimals.{out-number}
 use Rattle.reo_syntax.proofs.Cuts.{open-cut}
 use Rattle.reo_syntax.proofs.Claims.{Again, SameType, Claim}
-use Rattle.reo_syntax.proofs.Seen.{World, See, see-then, see-both, see-made, see-either, see-lined, see-word, see-token, see-chain, see-nothing}
+use Rattle.reo_syntax_laws.proofs.Seen.{World, See, see-then, see-both, see-made, see-either, see-lined, see-word, see-token, see-chain, see-nothing}
 use Rattle.reo_syntax.proofs.Lists.{flat-snoc, map-snoc}
 use Rattle.reo_syntax.proofs.Types.{see-type, see-type-rule}
 use Rattle.reo_syntax.proofs.Literals.{see-literal-rule}
@@ -118,15 +118,15 @@ see-declarations f = see-chain (see-nothing (λ r. out-first (out-nothing [] r (
 -- The number of the version.
 is-two : (n : ℕ) → (nat_le 2 n && nat_le n 2) ≡ true → n ≡ 2
 is-two n h =
-    let a : nat_le 2 n ≡ true = and_left (nat_le 2 n) (nat_le n 2) h in
-    let b : nat_le n 2 ≡ true = and_right (nat_le 2 n) (nat_le n 2) h in
+    let a : nat_le 2 n ≡ true = (and_parts (nat_le 2 n) (nat_le n 2) h).0 in
+    let b : nat_le n 2 ≡ true = (and_parts (nat_le 2 n) (nat_le n 2) h).1 in
     let c : 2 ≤ n = grind (arith, nat_tests) in
     let d : n ≤ 2 = grind (arith, nat_tests) in
     omega arith
 
 two-out : (t : Lexeme) (r : List ℕ) → matches (number 2 2) t ≡ true → is_real t ≡ true → Out (number_form 2 2) (codes "2\n") (t ∷ []) r (λ n. number_from 0 t.bytes ≡ n)
 two-out t r m q =
-    let e : number_from 0 t.bytes ≡ 2 = is-two (number_from 0 t.bytes) (and_right (is_number t.kind) _ m) in
+    let e : number_from 0 t.bytes ≡ 2 = is-two (number_from 0 t.bytes) ((and_parts (is_number t.kind) _ m).1) in
     out-text (ap (λ n. decimal n ++ codes "\n") e ∙ ap (λ l. l ++ codes "\n") (decimal_digit 2 (omega arith))) (out-number 2 2 t (codes "\n") r m q refl refl)
 
 pub version-out : (t u : Lexeme) (r : List ℕ) → matches (named (codes "reo")) t ≡ true → is_real t ≡ true → matches (number 2 2) u ≡ true → is_real u ≡ true

@@ -12,10 +12,9 @@ use Rattle.reo_lexer.specs.Gaps.{is_space}
 use Rattle.reo_lexer.proofs.Cut.{is_cut}
 use Rattle.reo_lexer.proofs.Spelled.{never}
 use Rattle.reo_trees.specs.Forms.{named_word}
-use Rattle.reo_syntax.proofs.Again.{Out, out-made, out-text, out-token, even-alike}
-use Rattle.reo_syntax.proofs.Seen.{World, See, see-made, see-token}
-use Rattle.std.proofs.lemmas.Bool.{or_left as or-first, or_right as or-second}
-use Rattle.reo_values.proofs.Truths.{and_left, and_right}
+use Rattle.reo_syntax_laws.proofs.Again.{Out, out-made, out-text, out-token, even-alike}
+use Rattle.reo_syntax_laws.proofs.Seen.{World, See, see-made, see-token}
+use Rattle.std.proofs.lemmas.Bool.{or_left as or-first, or_right as or-second, and_parts}
 use Rattle.reo_values.proofs.Sequences.{same_bytes}
 use Rattle.reo_grammar.proofs.Classes.{name-kind}
 
@@ -30,17 +29,17 @@ starts-append (x ∷ a) b h = h
 
 name-starts : (b : List ℕ) → is_name b ≡ true → starts_well b ≡ true
 name-starts [] h = absurd (cc)
-name-starts (b ∷ bs) h = or-first (is_letter b) (is_digit b) (and_left (is_letter b) (list_all is_name_byte bs) h)
+name-starts (b ∷ bs) h = or-first (is_letter b) (is_digit b) ((and_parts (is_letter b) (list_all is_name_byte bs) h).0)
 
 pub digits-start : (b : List ℕ) → is_digits b ≡ true → starts_well b ≡ true
 digits-start [] h = absurd (cc)
-digits-start (b ∷ bs) h = or-second (is_letter b) (is_digit b) (and_left (is_digit b) (list_all is_digit bs) h)
+digits-start (b ∷ bs) h = or-second (is_letter b) (is_digit b) ((and_parts (is_digit b) (list_all is_digit bs) h).0)
 
 -- The token of a name.
 pub token-starts : (t : Lexeme) → matches name t ≡ true → is_real t ≡ true → starts_well t.bytes ≡ true
 token-starts t m q =
-    let s : spells kinds.Name t.bytes ≡ true = subst (λ k. spells k t.bytes ≡ true) (name-kind t.kind m) (and_left (spells t.kind t.bytes) (is_short t.kind t.bytes) q) in
-    name-starts t.bytes (and_left (is_name t.bytes) (not (one_of t.bytes reserved)) s)
+    let s : spells kinds.Name t.bytes ≡ true = subst (λ k. spells k t.bytes ≡ true) (name-kind t.kind m) ((and_parts (spells t.kind t.bytes) (is_short t.kind t.bytes) q).0) in
+    name-starts t.bytes ((and_parts (is_name t.bytes) (not (one_of t.bytes reserved)) s).0)
 
 not-byte : (n b : ℕ) → is_name_byte b ≡ true → is_name_byte n ≡ false → (b == n) ≡ false
 not-byte n b h k = never (b == n) (λ e. absurd (let i : b ≡ n = grind (arith, nat_tests) in let j : is_name_byte n ≡ true = subst (λ z. is_name_byte z ≡ true) i h in let q : false ≡ true = sym k ∙ j in cc))
@@ -58,8 +57,8 @@ less-cut (b ∷ bs) r h = let e : (b == 61) ≡ false = not-byte 61 b h refl in 
 pub out-named : (b gap : List ℕ) (t : Lexeme) (r : List ℕ) → matches (named b) t ≡ true → is_real t ≡ true → list_all is_space gap ≡ true → is_cut kinds.Name b (gap ++ r) ≡ true
     → Out (named_word b) (b ++ gap) (t ∷ []) r (λ x. Unit {0})
 out-named b gap t r m q s i =
-    let e : t.bytes ≡ b = same_bytes t.bytes b (and_right _ _ m) in
-    let k : t.kind ≡ kinds.Name = name-kind t.kind (and_left _ _ m) in
+    let e : t.bytes ≡ b = same_bytes t.bytes b ((and_parts _ _ m).1) in
+    let k : t.kind ≡ kinds.Name = name-kind t.kind ((and_parts _ _ m).0) in
     let c : is_cut t.kind t.bytes (gap ++ r) ≡ true = rw (k, e) i in
     out-text (ap (λ l. l ++ gap) e) (out-made (λ x. Unit {0}) (out-token (named b) t t gap r m q s c (even-alike t t refl refl)) (λ x h. tt))
 

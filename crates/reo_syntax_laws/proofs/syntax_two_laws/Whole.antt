@@ -16,7 +16,7 @@ use Rattle.reo_trees.specs.SaysTwo.{IsLooped, most_loops, IsDeepTwo, SaysTwo}
 use Rattle.reo_syntax.specs.Written.{HasNoMoreGroupings}
 use Rattle.reo_syntax.proofs.Row.{row-tokens}
 use Rattle.reo_syntax.proofs.Thin.{thin-levels, thin-fewer}
-use Rattle.reo_syntax.proofs.Again.{Out}
+use Rattle.reo_syntax_laws.proofs.Again.{Out}
 use Rattle.reo_syntax.proofs.Programs.{thin-alike}
 use Rattle.reo_syntax.specs.two.Canonical.{canonical_text_two}
 use Rattle.reo_syntax_laws.specs.syntax_two_laws.Unlined.{SameTwo}

@@ -1,16 +1,16 @@
 -- What holds of every tree that a form derives.
 use Rattle.std.proofs.Common.{arith, ◌≡◌, ℕ, ◌≤◌, true, ◌&&◌, nat_le, List}
+use Rattle.std.proofs.lemmas.Bool.{and_parts}
 use Rattle.std.specs.List.{All}
 use Rattle.std.proofs.lemmas.Bool.Decides.{nat_tests}
 use Rattle.reo_values.specs.Kind.{IsPlain}
-use Rattle.reo_values.proofs.Truths.{and_left, and_right}
 use Rattle.reo_grammar.specs.Tokens.{Lexeme, Class, AreReal, number_from, is_number}
 use Rattle.reo_grammar.specs.Grammar.{Within}
 use Rattle.reo_grammar.specs.Grammar.Grammar.{nothing, both, made, either, chain, lined, rule}
 use Rattle.reo_trees.specs.Forms.{Rule, tree_of, FormOf, word_as, name_form, number_form, text_form, ◌▸◌, ◌◂◌, comma_form}
 use Rattle.reo_trees.specs.Forms.Rule.{type_rule, literal_rule, term_rule, unary_rule, looped_rule}
 use Rattle.reo_trees.specs.Rules.{circuit_rules}
-use Rattle.reo_syntax.proofs.Seen.{World, See, see-then, see-both, see-made, see-either, see-lined, see-nothing, see-token, see-chain, see-rule}
+use Rattle.reo_syntax_laws.proofs.Seen.{World, See, see-then, see-both, see-made, see-either, see-lined, see-nothing, see-token, see-chain, see-rule}
 use Rattle.reo_syntax_laws.specs.trees_laws.Spelled.{IsFreeName, IsSpelledShape, IsSpelledLiteral, IsSpelledTerm}
 use Rattle.reo_syntax_laws.proofs.trees_laws.Lists.{all-one, all-more}
 use Rattle.reo_syntax_laws.proofs.trees_laws.Quoted.{name-free, text-plain}
@@ -79,12 +79,12 @@ Lies low high n = (low ≤ n) × (n ≤ high)
 
 in-order : (low high n : ℕ) → (nat_le low n && nat_le n high) ≡ true → Lies low high n
 in-order low high n h =
-    let a = and_left (nat_le low n) (nat_le n high) h in
-    let b = and_right (nat_le low n) (nat_le n high) h in
+    let a = (and_parts (nat_le low n) (nat_le n high) h).0 in
+    let b = (and_parts (nat_le low n) (nat_le n high) h).1 in
     (grind (arith, nat_tests), grind (arith, nat_tests))
 
 pub has-number : {w : World} (low high : ℕ) → Has w (number_form low high) (Lies low high)
-has-number low high = see-made (see-token (λ t m q. in-order low high (number_from 0 t.bytes) (and_right (is_number t.kind) _ m)))
+has-number low high = see-made (see-token (λ t m q. in-order low high (number_from 0 t.bytes) ((and_parts (is_number t.kind) _ m).1)))
 
 -- One part or more, with commas between them.
 pub has-comma : {w : World} {A : Type 0} {g : FormOf A} (S : A → Type 0) → Has w g S → Has w (comma_form g) (All S)

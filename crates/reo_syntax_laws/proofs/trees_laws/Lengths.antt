@@ -22,7 +22,7 @@ use Rattle.reo_trees.specs.Rules.{circuit_rules}
 use Rattle.reo_trees.specs.Items.{item_form, items_form}
 use Rattle.reo_trees.specs.Programs.{connector_form, named_form, declaration_form, declarations_form, program_form}
 use Rattle.reo_trees.specs.Says.{SaysProgram}
-use Rattle.reo_syntax.proofs.Seen.{World, See, see-then, see-both, see-made, see-either, see-lined, see-nothing, see-chain}
+use Rattle.reo_syntax_laws.proofs.Seen.{World, See, see-then, see-both, see-made, see-either, see-lined, see-nothing, see-chain}
 use Rattle.reo_syntax_laws.specs.trees_laws.Few.{HasAtMost, HasItemsWithin}
 use Rattle.reo_syntax_laws.proofs.trees_laws.Lists.{all-none, all-more}
 

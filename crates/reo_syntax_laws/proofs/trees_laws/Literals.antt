@@ -5,7 +5,7 @@ use Rattle.reo_trees.specs.declared.literals.Constant.TheVariants as constants
 use Rattle.reo_trees.specs.declared.literals.Constant.TheBlock.{hidden-the_row-LiteralPair-0}
 use Rattle.reo_trees.specs.declared.literals.LiteralPair.{LiteralPair}
 use Rattle.reo_trees.specs.Literals.{greatest, minus_form, literal_pair_form, constant_form, literal_form}
-use Rattle.reo_syntax.proofs.Seen.{World, see-then}
+use Rattle.reo_syntax_laws.proofs.Seen.{World, see-then}
 use Rattle.reo_syntax_laws.specs.trees_laws.Spelled.{IsSpelledConstant, IsSpelledLiteral}
 use Rattle.reo_syntax_laws.proofs.trees_laws.Has.{Each, world, Has, has-both, has-left, has-right, has-made, has-lined, has-either, has-word-as, has-name, has-text, has-number, has-literal}
 use Rattle.reo_syntax_laws.proofs.trees_laws.Types.{near-pos, near-neg}

@@ -1,7 +1,6 @@
 -- Programs that texts say.
 use Rattle.std.proofs.Common.{ℕ, zero, suc, Bool, List, Option, Some, None}
 use Rattle.std.specs.List.{All}
-use Rattle.reo_grammar.specs.Grammar.{Within, Says}
 use Rattle.reo_lexer.specs.Lexing.{lexemes_of}
 use Rattle.reo_lexer.proofs.Spans.{tokens-real}
 use Rattle.reo_trees.specs.declared.literals.Literal.{Literal}
@@ -14,14 +13,14 @@ use Rattle.reo_trees.specs.declared.programs.Parameter.{Parameter}
 use Rattle.reo_trees.specs.declared.programs.Connector.{Connector}
 use Rattle.reo_trees.specs.declared.programs.Declaration.{Declaration}
 use Rattle.reo_trees.specs.declared.programs.Program.{Program}
-use Rattle.reo_trees.specs.Forms.{Rule, tree_of}
+use Rattle.reo_trees.specs.Forms.{Rule}
 use Rattle.reo_trees.specs.Forms.Rule.{type_rule, literal_rule, term_rule, unary_rule, looped_rule}
 use Rattle.reo_trees.specs.Rules.{circuit_rules}
 use Rattle.reo_trees.specs.Channels.{plain_channel, plain_form, held_form, fifo1_form, held_list, sized_form, fifo_form, filter_form, map_form}
 use Rattle.reo_trees.specs.Items.{node_form, arguments_form, use_form, some_item, item_form, items_form}
 use Rattle.reo_trees.specs.Programs.{parameter_form, parameters_form, connector_form, named_form, declaration_form, declarations_form, program_form}
 use Rattle.reo_trees.specs.Says.{SaysProgram}
-use Rattle.reo_syntax.proofs.Seen.{World, see-then}
+use Rattle.reo_syntax_laws.proofs.Seen.{World, see-then}
 use Rattle.reo_syntax_laws.specs.trees_laws.Spelled.{IsFreeName, IsSpelledShape, IsSpelledLiteral, IsSpelledTerm, IsSpelledChannel, IsFormBy, IsItemBy, IsSpelledParameter, IsConnectorBy, IsDeclarationBy, IsWritten}
 use Rattle.reo_syntax_laws.proofs.trees_laws.Lists.{all-none, all-more}
 use Rattle.reo_syntax_laws.proofs.trees_laws.Has.{Claim, Each, world, Has, Lies, any, has-both, has-left, has-right, has-made, has-lined, has-either, has-nothing, has-chain, has-word-as, has-name, has-number, has-comma, has-type, has-literal, has-term}

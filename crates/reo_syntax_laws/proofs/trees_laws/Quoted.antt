@@ -1,5 +1,6 @@
 -- The bytes of a text in quotes are printable, and names are names.
 use Rattle.std.proofs.Common.{arith, ◌≡◌, ℕ, ◌-◌, ◌==◌, Bool, true, false, ◌&&◌, not, cond, List, [], ◌∷◌, length, take, sym, subst}
+use Rattle.std.proofs.lemmas.Bool.{and_parts, not-true}
 use Rattle.std.specs.List.{All}
 use Rattle.std.proofs.lemmas.Bool.Decides.{nat_tests}
 use Rattle.reo_values.specs.Kind.{IsPlain}
@@ -11,7 +12,6 @@ use Rattle.reo_grammar.specs.Tokens.{Lexeme, matches, is_real}
 use Rattle.reo_grammar.specs.Tokens.Class.{name, text}
 use Rattle.reo_grammar.proofs.Classes.{text-kind, name-kind}
 use Rattle.reo_values.specs.Names.{is_name}
-use Rattle.reo_values.proofs.Truths.{and_left, and_right, not_true}
 use Rattle.reo_trees.specs.Texts.{resolved, text_bytes}
 use Rattle.reo_syntax.proofs.Quotes.{take-body}
 use Rattle.reo_syntax_laws.specs.trees_laws.Spelled.{IsFreeName}
@@ -34,8 +34,8 @@ closed-plain true [] h = absurd (cc)
 closed-plain false [] h = absurd (cc)
 closed-plain true (b ∷ []) h = all-none IsPlain
 closed-plain true (b ∷ c ∷ bs) h =
-    all-cons IsPlain b (resolved false (body (c ∷ bs))) (escaped-plain b (and_left (is_escaped b) (is_closed false (c ∷ bs)) h))
-    (closed-plain false (c ∷ bs) (and_right (is_escaped b) (is_closed false (c ∷ bs)) h))
+    all-cons IsPlain b (resolved false (body (c ∷ bs))) (escaped-plain b ((and_parts (is_escaped b) (is_closed false (c ∷ bs)) h).0))
+    (closed-plain false (c ∷ bs) ((and_parts (is_escaped b) (is_closed false (c ∷ bs)) h).1))
 closed-plain false (b ∷ []) h = all-none IsPlain
 closed-plain false (b ∷ c ∷ bs) h = by (b == 34) (b == 92) h (λ k. closed-plain true (c ∷ bs) k) (λ k. closed-plain false (c ∷ bs) k)
   where
@@ -46,24 +46,24 @@ closed-plain false (b ∷ c ∷ bs) h = by (b == 34) (b == 92) h (λ k. closed-p
     by true y h i j = absurd (cc)
     by false true h i j = i h
     by false false h i j =
-        all-cons IsPlain b (resolved false (body (c ∷ bs))) (unescaped-plain b (and_left (is_unescaped b) (is_closed false (c ∷ bs)) h)) (j (and_right (is_unescaped b) (is_closed false (c ∷ bs)) h))
+        all-cons IsPlain b (resolved false (body (c ∷ bs))) (unescaped-plain b ((and_parts (is_unescaped b) (is_closed false (c ∷ bs)) h).0)) (j ((and_parts (is_unescaped b) (is_closed false (c ∷ bs)) h).1))
 
 spelled-plain : (bs : List ℕ) → spells kinds.Text bs ≡ true → All IsPlain (text_bytes bs)
 spelled-plain [] h = absurd (cc)
-spelled-plain (q ∷ []) h = absurd (let k : false ≡ true = and_right (q == 34) false h in cc)
+spelled-plain (q ∷ []) h = absurd (let k : false ≡ true = (and_parts (q == 34) false h).1 in cc)
 spelled-plain (q ∷ b ∷ bs) h =
     let same : take (length (q ∷ b ∷ bs) - 2) (b ∷ bs) ≡ body (b ∷ bs) = take-body (length (q ∷ b ∷ bs) - 2) (b ∷ bs) (omega arith) in
-    subst (λ l. All IsPlain (resolved false l)) (sym same) (closed-plain false (b ∷ bs) (and_right (q == 34) (is_closed false (b ∷ bs)) h))
+    subst (λ l. All IsPlain (resolved false l)) (sym same) (closed-plain false (b ∷ bs) ((and_parts (q == 34) (is_closed false (b ∷ bs)) h).1))
 
 -- The token of a text in quotes stands for printable bytes.
 pub text-plain : (t : Lexeme) → matches text t ≡ true → is_real t ≡ true → All IsPlain (text_bytes t.bytes)
 text-plain t m q =
-    let spelled : spells t.kind t.bytes ≡ true = and_left (spells t.kind t.bytes) (is_short t.kind t.bytes) q in
+    let spelled : spells t.kind t.bytes ≡ true = (and_parts (spells t.kind t.bytes) (is_short t.kind t.bytes) q).0 in
     spelled-plain t.bytes (subst (λ k. spells k t.bytes ≡ true) (text-kind t.kind m) spelled)
 
 -- The token of a name is a name and no reserved word.
 pub name-free : (t : Lexeme) → matches name t ≡ true → is_real t ≡ true → IsFreeName t.bytes
 name-free t m q =
-    let spelled : spells t.kind t.bytes ≡ true = and_left (spells t.kind t.bytes) (is_short t.kind t.bytes) q in
+    let spelled : spells t.kind t.bytes ≡ true = (and_parts (spells t.kind t.bytes) (is_short t.kind t.bytes) q).0 in
     let both = subst (λ k. spells k t.bytes ≡ true) (name-kind t.kind m) spelled in
-    ((is_name-is t.bytes).0 (and_left (is_name t.bytes) (not (one_of t.bytes reserved)) both), not_true (one_of t.bytes reserved) (and_right (is_name t.bytes) (not (one_of t.bytes reserved)) both))
+    ((is_name-is t.bytes).0 ((and_parts (is_name t.bytes) (not (one_of t.bytes reserved)) both).0), not-true (one_of t.bytes reserved) ((and_parts (is_name t.bytes) (not (one_of t.bytes reserved)) both).1))

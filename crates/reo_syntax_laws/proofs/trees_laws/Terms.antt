@@ -14,7 +14,7 @@ use Rattle.reo_trees.specs.declared.terms.Opened.{Opened}
 use Rattle.reo_trees.specs.Literals.{greatest}
 use Rattle.reo_trees.specs.Operators.{Further}
 use Rattle.reo_trees.specs.Terms.{symbol_form, call_form, if_form, simple_form, group_end, group_form, atom_form, prefixed_form, unary_form, further_product, product_form, further_sum, sum_form, compared_with, comparison_form, further_and, and_form, further_or, or_form, term_form}
-use Rattle.reo_syntax.proofs.Seen.{World, see-then}
+use Rattle.reo_syntax_laws.proofs.Seen.{World, see-then}
 use Rattle.reo_syntax_laws.specs.trees_laws.Spelled.{IsFreeName, IsSpelledTerm}
 use Rattle.reo_syntax_laws.proofs.trees_laws.Has.{Each, world, Has, any, has-both, has-left, has-right, has-made, has-lined, has-either, has-nothing, has-chain, has-word-as, has-name, has-text, has-number, has-term, has-unary}
 

@@ -10,7 +10,7 @@ use Rattle.reo_trees.specs.declared.types.TypeTerm.{TypeTerm}
 use Rattle.reo_trees.specs.Types.{bound_form, int_form, names_form, sym_form, text_type_form, pair_form, shape_form, type_form}
 use Rattle.reo_syntax_laws.specs.trees_laws.Spelled.{IsFreeName, LiesNear, IsSpelledShape}
 use Rattle.reo_syntax_laws.proofs.trees_laws.Has.{Each, world, Has, Lies, has-both, has-left, has-right, has-made, has-lined, has-either, has-word-as, has-name, has-number, has-comma, has-type}
-use Rattle.reo_syntax.proofs.Seen.{World, see-then}
+use Rattle.reo_syntax_laws.proofs.Seen.{World, see-then}
 
 -- A number, with a `-` before it or without.
 pub near-pos : (most n : ℕ) → n ≤ most → LiesNear most (pos n)

@@ -1,7 +1,7 @@
 -- Items of a loop by the list of its items, and with few loops in one another.
 use Rattle.std.proofs.Common.{arith, ◌≡◌, ℕ, zero, suc, Bool, true, List, [], ◌∷◌, sym, subst}
+use Rattle.std.proofs.lemmas.Bool.{and_parts}
 use Rattle.std.specs.List.{All, list_all}
-use Rattle.reo_values.proofs.Truths.{and_left, and_right}
 use mathlib.Core.Former.{Count}
 use Rattle.reo_trees.specs.declared.indexes.Index.{Index}
 use Rattle.reo_trees.specs.declared.items_two.ItemTwo.{ItemTwo}
@@ -38,7 +38,7 @@ mutual
   row_counted : (n : ℕ) {m : _} (row : Row_of-ItemTwo m) → AreLooped row → few_in_row n row ≡ true → AreSpelledLooped n row
   row_counted n end_of-ItemTwo h few = tt
   row_counted n (more_of-ItemTwo line f rest) h few =
-      (counted n f h.0 (and_left (few_loops n f) (few_in_row n rest) few), row_counted n rest h.1 (and_right (few_loops n f) (few_in_row n rest) few))
+      (counted n f h.0 ((and_parts (few_loops n f) (few_in_row n rest) few).0), row_counted n rest h.1 ((and_parts (few_loops n f) (few_in_row n rest) few).1))
 
 outer_counted : (f : FormTwo) → IsOuter f → few_loops 8 f ≡ true → IsSpelledFormTwo f
 outer_counted (form.Node name size term) h few = h
@@ -49,9 +49,9 @@ outer_counted (form.Loop' variable low high m row) h few = counted 8 (form.Loop'
 -- What holds of each part, with a test that each passes.
 all_counted : {X : Type 0} (P Q : X → Type 0) (test : X → Bool) → ((x : X) → P x → test x ≡ true → Q x) → (xs : List X) → All P xs → list_all test xs ≡ true → All Q xs
 all_counted P Q test step [] all few k d below = absurd (omega arith)
-all_counted P Q test step (x ∷ xs) all few zero d below = step x (all zero x (omega arith)) (and_left (test x) (list_all test xs) few)
+all_counted P Q test step (x ∷ xs) all few zero d below = step x (all zero x (omega arith)) ((and_parts (test x) (list_all test xs) few).0)
 all_counted P Q test step (x ∷ xs) all few (suc k) d below =
-    all_counted P Q test step xs (λ j e lower. all (suc j) e (omega arith)) (and_right (test x) (list_all test xs) few) k d (omega arith)
+    all_counted P Q test step xs (λ j e lower. all (suc j) e (omega arith)) ((and_parts (test x) (list_all test xs) few).1) k d (omega arith)
 
 declaration_counted : (d : DeclarationTwo) → IsLooseDeclaration d → few_declared 8 d ≡ true → IsSpelledDeclarationTwo d
 declaration_counted (declarations.Named line name term) h few = h

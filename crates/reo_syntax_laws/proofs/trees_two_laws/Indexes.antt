@@ -4,7 +4,7 @@ use Rattle.std.specs.List.{All}
 use Rattle.reo_trees.specs.declared.indexes.SignedUnit.{SignedUnit}
 use Rattle.reo_trees.specs.declared.indexes.IndexUnit.{IndexUnit}
 use Rattle.reo_trees.specs.Indexes.{unit_form, further_unit, further_units, index_form, place_form, placed_form, ref_form, unsigned}
-use Rattle.reo_syntax.proofs.Seen.{World, see-then}
+use Rattle.reo_syntax_laws.proofs.Seen.{World, see-then}
 use Rattle.reo_syntax_laws.specs.trees_laws.Spelled.{IsFreeName}
 use Rattle.reo_syntax_laws.specs.trees_laws.SpelledTwo.{IsSpelledUnit, IsSpelledIndex, IsSpelledPlace, IsSpelledRef}
 use Rattle.reo_syntax_laws.proofs.trees_laws.Lists.{all-none, all-cons}

@@ -11,7 +11,7 @@ use Rattle.reo_trees.specs.declared.items_two.FormTwo.{FormTwo}
 use Rattle.reo_trees.specs.Channels.{plain_between, one_between, list_between, sized_between, fifo1_between, fifo_between, filter_between, map_between}
 use Rattle.reo_trees.specs.Indexes.{ref_form}
 use Rattle.reo_trees.specs.ItemsTwo.{join_two, size_form, node_two, number_two, arguments_two, use_two, shift_two, variable_two, quota_two, looped_items, loop_form, some_looped, looped_form, item_two, items_two}
-use Rattle.reo_syntax.proofs.Seen.{World, see-then}
+use Rattle.reo_syntax_laws.proofs.Seen.{World, see-then}
 use Rattle.reo_syntax_laws.specs.trees_laws.Spelled.{IsFreeName, IsSpelledLiteral, IsSpelledChannel}
 use Rattle.reo_syntax_laws.specs.trees_laws.SpelledTwo.{IsSpelledIndex, IsSpelledPlace, IsSpelledRef}
 use Rattle.reo_syntax_laws.proofs.trees_laws.Lists.{all-none, all-more}

@@ -12,7 +12,7 @@ use Rattle.reo_trees.specs.Forms.Rule.{type_rule, literal_rule, term_rule, unary
 use Rattle.reo_trees.specs.Rules.{circuit_rules}
 use Rattle.reo_trees.specs.ProgramsTwo.{numbered_form, connector_two, named_two, declaration_two, declarations_two, program_two}
 use Rattle.reo_trees.specs.SaysTwo.{SaysTwo, IsLooped, most_loops}
-use Rattle.reo_syntax.proofs.Seen.{World, see-then}
+use Rattle.reo_syntax_laws.proofs.Seen.{World, see-then}
 use Rattle.reo_trees.specs.loops.Laws.{LoopsByTrees}
 use Rattle.reo_trees.specs.loops.Few.{few_in_program}
 use Rattle.reo_syntax_laws.specs.trees_laws.Spelled.{IsFreeName, IsSpelledParameter}

@@ -6,7 +6,7 @@ use Rattle.reo_grammar.specs.Grammar.Grammar.{rule}
 use Rattle.reo_trees.specs.Forms.{Rule, tree_of, FormOf}
 use Rattle.reo_trees.specs.Forms.Rule.{type_rule, literal_rule, term_rule, unary_rule, looped_rule}
 use Rattle.reo_trees.specs.Rules.{circuit_rules}
-use Rattle.reo_syntax.proofs.Seen.{World, see-rule}
+use Rattle.reo_syntax_laws.proofs.Seen.{World, see-rule}
 use Rattle.reo_syntax_laws.specs.trees_laws.Spelled.{IsSpelledShape, IsSpelledLiteral, IsSpelledTerm}
 use Rattle.reo_syntax_laws.proofs.trees_laws.Has.{Has, world}
 use Rattle.reo_syntax_laws.proofs.trees_laws.Programs.{each_claim}

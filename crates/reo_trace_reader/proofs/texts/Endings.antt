@@ -11,7 +11,7 @@ use Rattle.reo_trace.specs.declared.line.RoundLine.{RoundLine}
 use Rattle.reo_trace.specs.EndingText.{ending_text}
 use Rattle.reo_trace.specs.RoundText.{round_text}
 use Rattle.reo_values.specs.decimals.Digits.{IsSmall}
-use Rattle.reo_values.proofs.decimals.Digits.{colon_no_digit, feed_no_digit, small_unique, space_no_digit}
+use Rattle.reo_trace_reader.proofs.Digits.{colon_no_digit, feed_no_digit, small_unique, space_no_digit}
 use Rattle.reo_trace_reader.specs.texts.Lines.{IsEnding}
 use Rattle.reo_values.proofs.Words.{first_or}
 use Rattle.reo_trace_reader.proofs.texts.RoundLines.{line_text}

@@ -13,7 +13,7 @@ use Rattle.reo_trace.specs.RoundText.{cell_text, entry_text}
 use Rattle.reo_trace_reader.specs.texts.Lines.{EndsEntry, IsCell, IsEntry}
 use Rattle.reo_values.proofs.Words.{first_or}
 use Rattle.reo_values.specs.decimals.Digits.{IsDigit, NoDigit}
-use Rattle.reo_values.proofs.decimals.Digits.{decimal_no_other, decimal_unique, dot_no_digit, feed_no_digit}
+use Rattle.reo_trace_reader.proofs.Digits.{decimal_no_other, decimal_unique, dot_no_digit, feed_no_digit}
 use Rattle.reo_values.proofs.decimals.Fronts.{heads_apart}
 
 jam_no_digit : IsDigit 106 → ⊥

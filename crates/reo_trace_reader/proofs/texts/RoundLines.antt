@@ -7,7 +7,7 @@ use Rattle.reo_net_base.specs.declared.port.Port.{Port}
 use Rattle.reo_trace.specs.declared.line.RoundLine.{RoundLine}
 use Rattle.reo_trace.specs.RoundText.{moves_text, entry_text, round_text}
 use Rattle.reo_trace.specs.Spaced.{spaced}
-use Rattle.reo_values.proofs.decimals.Digits.{colon_no_digit, decimal_unique}
+use Rattle.reo_trace_reader.proofs.Digits.{colon_no_digit, decimal_unique}
 use Rattle.reo_trace_reader.specs.texts.Lines.{AreTold, IsLine}
 use Rattle.reo_trace_reader.proofs.texts.Moves.{AreMoves, moves_unique}
 use Rattle.reo_trace_reader.proofs.texts.Entries.{entries_unique}

@@ -1,6 +1,6 @@
 -- What holds of the tokens of a form, by those of its parts.
 use Rattle.std.proofs.Common.{◌≡◌, ℕ, zero, suc, Bool, true, ◌&&◌, List, [], ◌∷◌, ◌++◌, inl, inr, sym, subst}
-use Rattle.reo_values.proofs.Truths.{and_left, and_right}
+use Rattle.std.proofs.lemmas.Bool.{and_parts}
 use Rattle.reo_grammar.specs.Tokens.{Lexeme, Class, matches}
 use Rattle.reo_grammar.specs.Grammar.{Derives, Links}
 use Rattle.reo_grammar.specs.Grammar.Grammar.{nothing, token, both, made, either, chain, lined, rule}
@@ -35,11 +35,11 @@ module _ {R : (r : Rule) → List Lexeme → tree_of r → Type 0} {c : Class} {
   pub parts : {A : Type 0} (g : FormOf A) → avoids c told g ≡ true → (ts : List Lexeme) (x : A) → Derives R g ts x → P ts
   parts (nothing y) h ts x d = subst P (sym d.0) k.none
   parts (token e) h ts x d = subst P (sym d.0) (k.one x (λ m. apart-no e c x h d.1 m))
-  parts (both f g i) h ts x (a, b, y, z, w, d, e, v) = subst P (sym w) (k.two a b (parts g (and_left _ _ h) a y d) (parts i (and_right (avoids c told g) _ h) b z e))
+  parts (both f g i) h ts x (a, b, y, z, w, d, e, v) = subst P (sym w) (k.two a b (parts g ((and_parts _ _ h).0) a y d) (parts i ((and_parts (avoids c told g) _ h).1) b z e))
   parts (made f g) h ts x (y, d, v) = parts g h ts y d
-  parts (either e g i) h ts x (inl d) = parts g (and_left _ _ h) ts x d
-  parts (either e g i) h ts x (inr d) = parts i (and_right (avoids c told g) _ h) ts x d
+  parts (either e g i) h ts x (inl d) = parts g ((and_parts _ _ h).0) ts x d
+  parts (either e g i) h ts x (inr d) = parts i ((and_parts (avoids c told g) _ h).1) ts x d
   parts (chain f e g i) h ts x (n, l) =
-      links f (Derives R g) (Derives R i) (λ us y d. parts g (and_left _ _ h) us y d) (λ us y d. parts i (and_right (avoids c told g) _ h) us y d) n ts x l
+      links f (Derives R g) (Derives R i) (λ us y d. parts g ((and_parts _ _ h).0) us y d) (λ us y d. parts i ((and_parts (avoids c told g) _ h).1) us y d) n ts x l
   parts (lined f g) h ts x (y, d, v) = parts g h ts y d
   parts (rule r) h ts x d = k.each r ts x h d

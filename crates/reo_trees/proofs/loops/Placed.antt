@@ -3,8 +3,7 @@ use Rattle.std.proofs.Common.{◌≡◌, ◌∙◌, ℕ, zero, suc, ◌+◌, ◌
 use Rattle.std.proofs.lemmas.List.Folds.{list_all-append}
 use Rattle.std.specs.Str.{bytes_eq}
 use Rattle.std.proofs.Math.Dec.{ltb}
-use Rattle.std.proofs.lemmas.Bool.{le-ltb, lt-ltb}
-use Rattle.reo_values.proofs.Truths.{no_both}
+use Rattle.std.proofs.lemmas.Bool.{le-ltb, lt-ltb, both_ways}
 use Rattle.reo_grammar.specs.Tokens.{Lexeme, Class, matches}
 use Rattle.reo_grammar.specs.Tokens.Class.{fixed, among, named}
 use Rattle.reo_grammar.specs.Sight.{inside}
@@ -41,7 +40,7 @@ braces = among (codes "{" ∷ codes "}" ∷ [])
 
 -- A token that lets no item begin is no brace.
 no-brace : (b : List ℕ) (t : Lexeme) → inside (fixed b) item_starts ≡ true → matches item_starts t ≡ false → matches (fixed b) t ≡ false
-no-brace b t i h = false-not (matches (fixed b) t) (λ e. no_both (matches item_starts t) (inside-yes (fixed b) item_starts t i e) h)
+no-brace b t i h = false-not (matches (fixed b) t) (λ e. both_ways (matches item_starts t) h (inside-yes (fixed b) item_starts t i e))
 
 pub calm-up : (b : List ℕ) (ts : List Lexeme) (a : ℕ) → inside (fixed b) item_starts ≡ true → Calm ts → up (fixed b) a ts ≡ a
 calm-up b [] a i h = refl

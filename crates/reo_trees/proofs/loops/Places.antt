@@ -5,8 +5,7 @@ use Rattle.reo_grammar.specs.Tokens.Class.{fixed}
 use Rattle.reo_grammar.specs.Levels.{count_of}
 use Rattle.reo_trees.specs.SaysTwo.{item_starts, IsLooped}
 use Rattle.reo_trees.specs.loops.Places.{is_for, lets_item, begins_loop}
-use Rattle.std.proofs.lemmas.Bool.{and_from as and-true}
-use Rattle.reo_values.proofs.Truths.{and_both}
+use Rattle.std.proofs.lemmas.Bool.{and_from as and-true, and_parts}
 
 -- With one more token.
 pub lets_next : (ts : List Lexeme) (t : Lexeme) → lets_item (ts ++ t ∷ []) ≡ matches item_starts t
@@ -28,7 +27,7 @@ begins-so : (ts : List Lexeme) → begins_loop ts ≡ true → Begins ts
 begins-so [] h = absurd (cc)
 begins-so (t ∷ []) h = absurd (cc)
 begins-so (t ∷ u ∷ []) h =
-    let (m, n) = and_both (matches item_starts t) (is_for u) h in
+    let (m, n) = and_parts (matches item_starts t) (is_for u) h in
     ([], t, u, refl, m, n)
 begins-so (t ∷ u ∷ v ∷ ts) h =
     let (a, b, s, e, m, n) = begins-so (u ∷ v ∷ ts) h in

@@ -1,10 +1,9 @@
 -- Tokens walked over, from some count of braces on.
 use Rattle.std.proofs.Common.{◌≡◌, ◌∙◌, ℕ, suc, ◌+◌, ◌≤◌, Bool, true, false, not, cond, ◌&&◌, List, [], ◌∷◌, ◌++◌, refl, ap, arith, codes}
 use Rattle.std.proofs.Math.Dec.{ltb}
-use Rattle.std.proofs.lemmas.Bool.{le-ltb}
+use Rattle.std.proofs.lemmas.Bool.{le-ltb, and_from}
 use Rattle.reo_grammar.specs.Tokens.{Lexeme, Class, matches}
 use Rattle.reo_grammar.specs.Tokens.Class.{fixed}
-use Rattle.reo_grammar.proofs.Sound.{and-both}
 use Rattle.reo_trees.specs.SaysTwo.{item_starts}
 use Rattle.reo_trees.specs.loops.Places.{is_for}
 
@@ -131,7 +130,7 @@ low-quiet n [] a b s h = refl
 low-quiet n (t ∷ ts) a b s h =
     let k : add opening t a ≤ up opening (add opening t a) ts = up-more opening ts (add opening t a) in
     let l : b ≤ add closing t b = grow closing t b in
-    and-both (not (too_deep n a b s t)) _ (not-deep s (is_for t) _ (le-ltb (n + add closing t b) (add opening t a) (omega arith))) (low-quiet n ts (add opening t a) (add closing t b) (matches item_starts t) (omega arith))
+    and_from (not (too_deep n a b s t)) _ (not-deep s (is_for t) _ (le-ltb (n + add closing t b) (add opening t a) (omega arith))) (low-quiet n ts (add opening t a) (add closing t b) (matches item_starts t) (omega arith))
 
 pub shallow-token : (t : Lexeme) → matches opening t ≡ false → matches closing t ≡ false → Shallow (t ∷ [])
 shallow-token t h k = record { balanced = balanced-token t h k; quiet = λ n a b s i. token-quiet n a b s t (within n a b i) }

@@ -1,14 +1,14 @@
 -- The tokens of items, connectors and programs, and their loops.
 use Rattle.std.proofs.Common.{◌≡◌, ◌∙◌, ℕ, zero, suc, Bool, true, false, ◌&&◌, List, [], ◌∷◌, ◌++◌, inl, inr, refl, sym, ap, subst, append_assoc, codes}
+use Rattle.std.proofs.lemmas.Bool.{and_parts, or_left}
 use Rattle.std.specs.Str.{bytes_eq}
-use Rattle.reo_values.proofs.Truths.{and_left, and_right}
 use Rattle.reo_grammar.specs.Tokens.{Lexeme, Class, matches}
 use Rattle.reo_grammar.specs.Tokens.Class.{fixed, named}
 use Rattle.reo_grammar.specs.Grammar.{Derives, Links, Within}
 use Rattle.reo_grammar.specs.Grammar.Grammar.{nothing, token, both, made, either, chain, lined, rule}
 use Rattle.reo_grammar.specs.Sight.{firsts, all_apart}
 use Rattle.reo_grammar.proofs.Classes.{inside-yes, all_apart-no, false-not}
-use Rattle.reo_grammar.proofs.Sound.{never, or-left}
+use Rattle.reo_grammar.proofs.Sound.{never}
 use Rattle.reo_grammar.proofs.Complete.{begin}
 use Rattle.reo_grammar.proofs.Exact.{begins}
 use Rattle.reo_trees.specs.declared.items.Channel.{Channel}
@@ -73,8 +73,8 @@ module _ (k : ℕ) (claims : (r : Rule) (ts : List Lexeme) (x : tree_of r) → W
 
   ended : {A : Type 0} (g : FormOf A) → ends_calm g ≡ true → (ts : List Lexeme) (x : A) → Derives R g ts x → Ended ts
   ended (both f g h) e ts x (a, b, y, z, w, d1, d2, v) =
-      let (c, t, i, m, n) = ended h (and_right (avoids item_starts calm_rule g) _ e) b z d2 in
-      (a ++ c, t, w ∙ ap (λ l. a ++ l) i ∙ sym (append_assoc a c (t ∷ [])), calm-two a c (calm g (and_left _ _ e) a y d1) m, n)
+      let (c, t, i, m, n) = ended h ((and_parts (avoids item_starts calm_rule g) _ e).1) b z d2 in
+      (a ++ c, t, w ∙ ap (λ l. a ++ l) i ∙ sym (append_assoc a c (t ∷ [])), calm-two a c (calm g ((and_parts _ _ e).0) a y d1) m, n)
   ended (made f g) e ts x (y, d, v) = ended g e ts y d
   ended (lined f g) e ts x (y, d, v) = ended g e ts y d
   ended (token (fixed b)) e ts x d =
@@ -95,7 +95,7 @@ module _ (k : ℕ) (claims : (r : Rule) (ts : List Lexeme) (x : tree_of r) → W
       → (s : Lexeme) (u : List Lexeme) → s ∷ u ≡ ts → is_for s ≡ false
   first-other g h ts x d s u e =
       false-not (is_for s) (λ m. all_apart-no (firsts (circuit_table.first) g) (named (codes "for") ∷ []) s h
-      (begin (circuit_table.first) R (never (circuit_table.sound) k) (begins circuit_table k) g ts s u x e d) (or-left (is_for s) false m))
+      (begin (circuit_table.first) R (never (circuit_table.sound) k) (begins circuit_table k) g ts s u x e d) (or_left (is_for s) false m))
 
   simple : (g : FormOf FormTwo) → ends_calm g ≡ true → all_apart (firsts (circuit_table.first) g) (named (codes "for") ∷ []) ≡ true → (ts : List Lexeme) (f : FormTwo) → Derives R g ts f
       → ((m : ℕ) → few_loops m f ≡ true) → Placed 0 ts f

@@ -1,7 +1,7 @@
 -- Cells that are rows of their sides, and cells that are none.
 use Rattle.std.proofs.Common.{◌≡◌, inl, inr, ℕ, ◌+◌, ◌<◌, ◌≤◌, Some}
 use Rattle.std.specs.Prelude.{slice_get, List}
-use Rattle.reo_net_laws.proofs.Sides.{below_or}
+use Rattle.std.proofs.lemmas.Bool.{cases_lt}
 use Rattle.reo_net_base.specs.Behaviour.{Behaviour}
 use Rattle.reo_net_base.specs.Net.{Net, behaviour_at}
 use Rattle.reo_trace.specs.declared.line.Cell.{Cell}
@@ -11,7 +11,7 @@ use Rattle.reo_runs.specs.verdicts.Said.{cells_of, IsRowOf, HasRows, HasNoRow}
 use Rattle.reo_verify.specs.judging.Entries.{AreRowCells, HasNoRowCell}
 
 beyond : (rows row : ℕ) → (row + 1 < rows → ⊥) → rows ≤ row + 1
-beyond rows row never = elim (below_or (row + 1) rows) [ inl lt ↦ absurd (never lt) | inr le ↦ le ]
+beyond rows row never = elim (cases_lt (row + 1) rows) [ inl lt ↦ absurd (never lt) | inr le ↦ le ]
 
 -- A cell that is no row of its side.
 pub no_cell : (b : Behaviour) (e : Entry) (side : ℕ) (cell : Cell) → slice_get (cells_of e) side ≡ Some cell → (IsRowOf (b.rows side) cell → ⊥) → HasNoRowCell b e

@@ -10,7 +10,7 @@ use Rattle.reo_net_base.specs.Net.{Net, behaviour_at, side_at}
 use Rattle.reo_net_base.specs.Wired.{IsWired, IsEnd}
 use Rattle.reo_net_laws.specs.Ends.{mark_in, from_in}
 use Rattle.reo_net_laws.specs.Alike.{SameSide, AreAlike}
-use Rattle.reo_net_laws.proofs.Sides.{side_at_place}
+use Rattle.reo_weights.proofs.Sides.{side_at_place}
 
 module _ (bs ds : List Behaviour) (js : List Joint) (wired : IsWired (record { primitives = bs; joints = js })) (inside : ℕ → Bool)
     (alike : AreAlike (record { primitives = bs; joints = js }) (record { primitives = ds; joints = js }) inside)

@@ -6,7 +6,7 @@ use Rattle.reo_net_base.specs.First.{Position}
 use Rattle.reo_net_base.specs.Wired.{IsWired}
 use Rattle.reo_net_laws.specs.Parts.{IsAssignment}
 use Rattle.reo_net_laws.specs.Keys.{within, AreInRange}
-use Rattle.reo_net_laws.proofs.Sides.{side_in_range}
+use Rattle.reo_weights.proofs.Sides.{side_in_range}
 
 -- An assignment of a set is one of a set with no other side.
 pub fewer : (net : Net) → IsWired net → (p q : ℕ → Bool) → ((s : ℕ) → s < length (all_sides net.primitives) → q s ≡ true → p s ≡ true)

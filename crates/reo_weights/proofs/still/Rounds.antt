@@ -9,7 +9,7 @@ use Rattle.reo_net_base.specs.Net.{Net, Side, all_sides, behaviour_at, row_count
 use Rattle.reo_net_base.specs.First.{Position, is_leading, class_position, leading_positions, class_positions, row_positions, positions, order_by}
 use Rattle.reo_net_base.specs.Wired.{IsWired}
 use Rattle.reo_net_laws.specs.Keys.{within}
-use Rattle.reo_net_laws.proofs.Sides.{Owner, owner_of, owner_side, side_at_place}
+use Rattle.reo_weights.proofs.Sides.{Owner, owner_of, owner_side, side_at_place}
 use Rattle.reo_net_laws.proofs.Places.{order-append}
 use Rattle.reo_net_laws.proofs.Flows.{mark_of}
 use Rattle.reo_weights.specs.still.Still.{IsStill, StillPartsStayFirst}

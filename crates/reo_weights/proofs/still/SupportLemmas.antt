@@ -11,8 +11,8 @@ use Rattle.reo_net_base.specs.Colouring.{taken_at}
 use Rattle.reo_net_base.specs.Wired.{IsWired, IsEnd}
 use Rattle.reo_net_laws.specs.Ends.{mark_in, from_in, IsRowOf}
 use Rattle.reo_net_laws.specs.Alike.{AreAlike}
-use Rattle.reo_net_laws.proofs.Sides.{owner_of, owner_side, side_in_range}
-use Rattle.reo_net_laws.proofs.Assignments.{side_same, side_other, side_inside}
+use Rattle.reo_weights.proofs.Sides.{owner_of, owner_side, side_in_range}
+use Rattle.reo_weights.proofs.Assignments.{side_same, side_other, side_inside}
 use Rattle.reo_joint_values.specs.declared.value.JointValue.{JointValue}
 use Rattle.reo_joint_values.specs.Values.{Names, Choice, Family, items_of, no_joint, joint_of, giver_side, taker_side, AtSide}
 use Rattle.reo_joint_values.specs.Fitting.{given_for, given_in, passes_in, Fits}

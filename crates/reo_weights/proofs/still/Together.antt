@@ -1,5 +1,6 @@
 -- A first colouring from first assignments of parts.
 use Rattle.std.proofs.Common.{◌≡◌, inl, inr, ℕ, ◌<◌, List, [], Option, None, Bool, true, length, get_or, map, refl, ap, sym, ◌∙◌, arith}
+use Rattle.std.proofs.lemmas.Bool.{and_parts, eqb-true, lt-ltb, eq-eqb, ltb-true, cases_lt}
 use Rattle.std.specs.Prelude.{◌==◌, ◌&&◌, nat_lt}
 use Rattle.std.specs.List.{range_with_len}
 use Rattle.std.specs.Ordering.{nat_cmp}
@@ -8,8 +9,6 @@ use Rattle.std.proofs.lemmas.List.{get_or_default}
 use Rattle.std.proofs.lemmas.List.FromFn.{get_or-map-range_with_len, length-map-range_with_len}
 use native.Mathlib.Bridge.{le_prop}
 use Rattle.reo_values.specs.declared.value.Value.{Value}
-use Rattle.reo_values.proofs.Truths.{and_left, and_right}
-use Rattle.reo_values.proofs.Naturals.{eq_same, lt_true, same_eq, true_lt}
 use Rattle.reo_net_base.specs.declared.joint.Joint.{Joint}
 use Rattle.reo_net_base.specs.Sides.{side_count}
 use Rattle.reo_net_base.specs.Net.{Net, all_sides, side_at}
@@ -18,8 +17,8 @@ use Rattle.reo_net_base.specs.First.{Position, key_at, positions, order_by}
 use Rattle.reo_net_base.specs.Wired.{IsWired}
 use Rattle.reo_net_laws.specs.Parts.{SameKnot, IsAssignment, is_joint_inside}
 use Rattle.reo_net_laws.specs.Keys.{within, IsLeastIn}
-use Rattle.reo_net_laws.proofs.Sides.{below_or, are_rows, side_in_range}
-use Rattle.reo_net_laws.proofs.Assignments.{agreeing}
+use Rattle.reo_weights.proofs.Sides.{are_rows, side_in_range}
+use Rattle.reo_weights.proofs.Assignments.{agreeing}
 use Rattle.reo_net_laws.proofs.Places.{key_inside, positions_in_range}
 use Rattle.reo_net_laws.proofs.Orders.{no_joint}
 use Rattle.reo_net_laws.proofs.FirstInside.{first_by_parts}
@@ -31,28 +30,28 @@ use Rattle.reo_weights.proofs.still.PartSets.{fewer, same_places}
 module _ (net : Net) (wired : IsWired net) (numbers : List ℕ) (count : ℕ) (are : AreNumbers (SameKnot net) (side_count net) numbers count) where
   -- The part of a side.
   part_is : (k s : ℕ) → s < side_count net → in_knot numbers k s ≡ (get_or numbers s 0 == k)
-  part_is k s lt = ap (λ (t : Bool). t && (get_or numbers s 0 == k)) (lt_true s (length numbers) (omega (arith, are.one_each)))
+  part_is k s lt = ap (λ (t : Bool). t && (get_or numbers s 0 == k)) (lt-ltb s (length numbers) (omega (arith, are.one_each)))
 
   in_own : (s : ℕ) → s < side_count net → in_knot numbers (get_or numbers s 0) s ≡ true
-  in_own s lt = part_is (get_or numbers s 0) s lt ∙ same_eq (get_or numbers s 0) (get_or numbers s 0) refl
+  in_own s lt = part_is (get_or numbers s 0) s lt ∙ eq-eqb (get_or numbers s 0) (get_or numbers s 0) refl
 
   number_is : (k s : ℕ) → in_knot numbers k s ≡ true → get_or numbers s 0 ≡ k
-  number_is k s h = eq_same (get_or numbers s 0) k (and_right (nat_lt s (length numbers)) (get_or numbers s 0 == k) h)
+  number_is k s h = eqb-true (get_or numbers s 0) k ((and_parts (nat_lt s (length numbers)) (get_or numbers s 0 == k) h).1)
 
   in_range : (k s : ℕ) → in_knot numbers k s ≡ true → s < side_count net
   in_range k s h =
-      let lt = true_lt s (length numbers) (and_left (nat_lt s (length numbers)) (get_or numbers s 0 == k) h) in
+      let lt = ltb-true s (length numbers) ((and_parts (nat_lt s (length numbers)) (get_or numbers s 0 == k) h).0) in
       omega (arith, lt, are.one_each)
 
   module _ (turn : ℕ) (rows : List ℕ) (one_row : length rows ≡ side_count net) (parts : HaveFirsts net numbers count turn rows) where
     -- The items of the first assignment of a part.
     items_of : ℕ → List (Option Value)
-    items_of k = elim (below_or k count) [ inl lt ↦ (parts k lt).items | inr not_below ↦ [] ]
+    items_of k = elim (cases_lt k count) [ inl lt ↦ (parts k lt).items | inr not_below ↦ [] ]
 
     items_are : (k : ℕ) (lt : k < count) → items_of k ≡ (parts k lt).items
     unfolding items_of
     items_are k lt =
-        elim (below_or k count) as (λ c. elim c [ inl here ↦ (parts k here).items | inr not_below ↦ [] ] ≡ (parts k lt).items) [
+        elim (cases_lt k count) as (λ c. elim c [ inl here ↦ (parts k here).items | inr not_below ↦ [] ] ≡ (parts k lt).items) [
           | inl here ↦ λ i. (parts k (le_prop here lt i)).items
           | inr not_below ↦ absurd (omega arith)
         ]

@@ -7,7 +7,7 @@ use Rattle.reo_net_base.specs.Net.{Net, behaviour_at}
 use Rattle.reo_net_base.specs.Wired.{IsWired}
 use Rattle.reo_net_laws.specs.Parts.{IsClosed}
 use Rattle.reo_net_laws.specs.Alike.{AreAlike}
-use Rattle.reo_net_laws.proofs.Assignments.{first_same_at, side_same}
+use Rattle.reo_weights.proofs.Assignments.{first_same_at, side_same}
 
 module _ (bs ds : List Behaviour) (js : List Joint) (wired : IsWired (record { primitives = bs; joints = js })) (inside : ℕ → Bool)
     (alike : AreAlike (record { primitives = bs; joints = js }) (record { primitives = ds; joints = js }) inside) where

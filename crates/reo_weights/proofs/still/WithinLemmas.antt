@@ -6,7 +6,7 @@ use Rattle.reo_net_base.specs.Net.{Net}
 use Rattle.reo_net_base.specs.Wired.{IsWired}
 use Rattle.reo_net_laws.specs.Parts.{IsClosedBelow, IsClosed}
 use Rattle.reo_net_laws.specs.Alike.{AreAlike}
-use Rattle.reo_net_laws.proofs.Assignments.{side_same}
+use Rattle.reo_weights.proofs.Assignments.{side_same}
 use Rattle.reo_net_laws.proofs.Isolation.{same_net}
 use Rattle.reo_net_laws.specs.Knots.{IsLoop}
 use Rattle.reo_joint_values.specs.Standing.{no_joint, giver_of}

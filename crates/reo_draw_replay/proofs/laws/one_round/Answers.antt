@@ -1,5 +1,5 @@
 use Rattle.reo_rounds.specs.Rules.{rules_of}
-use Rattle.reo_rounds.proofs.OrderLemmas.{KeepsShape}
+use Rattle.reo_rounds.specs.Lasting.{KeepsShape}
 use Rattle.reo_draw_replay.proofs.OneRoundLemmas.{one_round}
 use Rattle.reo_draw_replay.proofs.laws.one_round.Goals as goal
 

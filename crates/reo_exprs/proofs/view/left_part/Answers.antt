@@ -1,6 +1,6 @@
 use Rattle.std.proofs.Common.{◌∙◌, ap, sym}
 use Rattle.reo_values.specs.Pair.{left_of}
-use Rattle.reo_values.proofs.Pairs.{left_of-Pair}
+use Rattle.reo_exprs.proofs.Pairs.{left_of-Pair}
 use Rattle.reo_exprs.proofs.Seen.{left_of-other}
 use Rattle.reo_exprs.proofs.view.left_part.Goals as goal
 

@@ -1,6 +1,6 @@
 use Rattle.std.proofs.Common.{◌∙◌, ap, sym}
 use Rattle.reo_values.specs.Pair.{right_of}
-use Rattle.reo_values.proofs.Pairs.{right_of-Pair}
+use Rattle.reo_exprs.proofs.Pairs.{right_of-Pair}
 use Rattle.reo_exprs.proofs.Seen.{right_of-other}
 use Rattle.reo_exprs.proofs.view.right_part.Goals as goal
 

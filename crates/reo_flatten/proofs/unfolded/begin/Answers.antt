@@ -1,7 +1,7 @@
 -- The ports, and then what the connector adds.
 use Rattle.std.proofs.Common.{arith, ◌≡◌, ◌∙◌, ◌<◌, ◌++◌, [], length, map, get_or, position, bytes_eq, codes, sym, ap, subst}
 use Rattle.std.proofs.lemmas.List.{map-append, length-map}
-use Rattle.reo_values.proofs.Sequences.{map_map}
+use Rattle.reo_flatten.proofs.Sequences.{map_map}
 use Rattle.reo_net_base.specs.declared.port.Port.{Port}
 use Rattle.reo_rules.specs.Types.{types_of}
 use Rattle.reo_trees.specs.declared.programs.Connector.{Connector}

@@ -1,6 +1,6 @@
 -- Rule by rule.
 use Rattle.std.proofs.Common.{◌∙◌, ◌++◌, sym, ap, subst}
-use Rattle.reo_values.proofs.Sequences.{left_none}
+use Rattle.reo_flatten.proofs.Sequences.{left_none}
 use Rattle.reo_rules.specs.Lists.{first_of}
 use Rattle.reo_rules.specs.Rules.{rule_breaks}
 use Rattle.reo_rules.specs.Twice.{twice}

@@ -1,7 +1,7 @@
 -- By what `main` unfolds to.
 use Rattle.std.proofs.Common.{arith, ◌∙◌, ◌≤◌, length, codes, sym, ap, subst}
 use Rattle.reo_values.specs.Valid.{AreDistinct}
-use Rattle.reo_values.proofs.Sequences.{left_none}
+use Rattle.reo_flatten.proofs.Sequences.{left_none}
 use Rattle.reo_rules.specs.Twice.{twice}
 use Rattle.reo_flat.specs.Unfolding.{meaning_named, meanings_of}
 use Rattle.reo_flat.specs.Flat.{placed_of, nodes_of, primitives_of, joints_at, homes_at}

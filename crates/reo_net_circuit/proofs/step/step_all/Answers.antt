@@ -10,7 +10,7 @@ use Rattle.reo_net_circuit.proofs.ReshapeLemmas.{lawful_at, whole_slice}
 use Rattle.reo_net_circuit.proofs.SettleLemmas.{rest_same, same_at, settled_more}
 use Rattle.reo_net_circuit.proofs.StepLemmas.{taken_kept}
 use Rattle.reo_net_circuit.proofs.step.step_all.Goals as goal
-use Rattle.reo_net_laws.proofs.Sides.{rows_length, side_in}
+use Rattle.reo_net_circuit.proofs.Sides.{rows_length, side_in}
 
 pub chosen-rows-requires-clause-first : goal.chosen-rows-requires-clause-first
 chosen-rows-requires-clause-first g c =

@@ -3,7 +3,7 @@ use Rattle.reo_net_base.specs.Behaviour.{Behaviour}
 use Rattle.reo_net_base.specs.Net.{behaviour_at, side_at}
 use Rattle.reo_net_circuit.proofs.ReshapeLemmas.{lawful_at}
 use Rattle.reo_net_circuit.proofs.turn.side_number.Goals as goal
-use Rattle.reo_net_laws.proofs.Sides.{side_in}
+use Rattle.reo_net_circuit.proofs.Sides.{side_in}
 
 pub overflow_add-result : goal.overflow_add-result
 overflow_add-result g c =

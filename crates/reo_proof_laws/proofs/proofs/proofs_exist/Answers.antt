@@ -1,5 +1,5 @@
 use Rattle.reo_rounds.specs.Rules.{rules_of}
-use Rattle.reo_rounds.proofs.OrderLemmas.{KeepsShape}
+use Rattle.reo_rounds.specs.Lasting.{KeepsShape}
 use Rattle.reo_proof_laws.proofs.Goings.{has_proofs}
 use Rattle.reo_proof_laws.proofs.proofs.proofs_exist.Goals as goal
 

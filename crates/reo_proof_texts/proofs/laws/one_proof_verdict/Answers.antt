@@ -1,5 +1,5 @@
 use Rattle.reo_rounds.specs.Rules.{rules_of}
-use Rattle.reo_rounds.proofs.OrderLemmas.{KeepsShape}
+use Rattle.reo_rounds.specs.Lasting.{KeepsShape}
 use Rattle.reo_proof_texts.proofs.VerdictLemmas.{one_verdict}
 use Rattle.reo_proof_texts.proofs.laws.one_proof_verdict.Goals as goal
 

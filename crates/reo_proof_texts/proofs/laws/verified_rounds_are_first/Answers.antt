@@ -1,5 +1,5 @@
 use Rattle.reo_rounds.specs.Rules.{rules_of}
-use Rattle.reo_rounds.proofs.OrderLemmas.{KeepsShape}
+use Rattle.reo_rounds.specs.Lasting.{KeepsShape}
 use Rattle.reo_proof_texts.proofs.FirstLemmas.{rounds_first}
 use Rattle.reo_proof_texts.proofs.laws.verified_rounds_are_first.Goals as goal
 

@@ -1,6 +1,5 @@
 use Rattle.std.proofs.Common.{◌≡◌, ◌∙◌, ◌<◌, ◌+◌, ℕ, Bool, List, true, get_or, take, refl, ap, sym, subst, arith}
-use Rattle.std.proofs.lemmas.Bool.{both_ways}
-use Rattle.reo_values.proofs.Naturals.{eq_same}
+use Rattle.std.proofs.lemmas.Bool.{both_ways, eqb-true}
 use Rattle.reo_net_base.specs.Net.{Net, net_of}
 use Rattle.reo_net_base.specs.Sides.{side_count}
 use Rattle.reo_joint_values.specs.declared.value.JointValue.{JointValue}
@@ -33,7 +32,7 @@ keep_given-requires-clause-flags g c = λ j v gives h.
     let net : Net = net_of g.P.Primitive.behaviour c.args.circuit.now in
     let side : ℕ = get_or c.args.sides.now c.loop-side.side-index 0 in
     let is : among c.args.sides.now (giver_side net j) ≡ true =
-    ap (among c.args.sides.now) (eq_same (giver_side net j) side gives) ∙ among_at c.args.sides.now c.loop-side.side-index c.loop-side-test.true in
+    ap (among c.args.sides.now) (eqb-true (giver_side net j) side gives) ∙ among_at c.args.sides.now c.loop-side.side-index c.loop-side-test.true in
     c.requires.flags j v is
     (kept_less (λ k. among (take c.loop-side.side-index c.args.sides.now) (giver_side net k)) c.args.alive.now c.args.sets.now.values c.loop-side.sets.values c.loop-side.invariant.kept j v h)
 

@@ -5,7 +5,7 @@ use Rattle.reo_trees.specs.declared.items.Item.{Item}
 use Rattle.reo_rules.specs.Scopes.{connectors_of}
 use Rattle.reo_rules.specs.Arity.{arity_in_item, arity_in}
 use Rattle.reo_rules.specs.Judged.{IsFirst}
-use Rattle.reo_rules.proofs.AfterLemmas.{judged_err}
+use Rattle.reo_rules_names.proofs.AfterLemmas.{judged_err}
 use Rattle.reo_rules_names.proofs.LoopLemmas.{Keeps, made_next, type_next, made_first}
 use Rattle.reo_rules_names.proofs.arity.declarations_arity.Goals as goal
 use Rattle.reo_rules_names.proofs.arity.declarations_arity.Goals.{in-Made+in_ok-items_arity+in_ok-add, in_default}

@@ -1,7 +1,7 @@
 -- The first break of an item is the first of all.
 use Rattle.reo_trees.specs.declared.items.Item.{Item}
 use Rattle.reo_rules.specs.Arity.{arity_in_item}
-use Rattle.reo_rules.proofs.AfterLemmas.{judged_err, flat_first, flat_more, flat_all}
+use Rattle.reo_rules_names.proofs.AfterLemmas.{judged_err, flat_first, flat_more, flat_all}
 use Rattle.reo_rules_names.proofs.arity.items_arity.Goals as goal
 
 pub returns-in_err-item_arity-clause-judged : goal.returns-in_err-item_arity-clause-judged

@@ -2,7 +2,7 @@
 use Rattle.std.proofs.Common.{◌+◌, refl, sym, subst, take}
 use Rattle.reo_rules.specs.Scopes.{connectors_of}
 use Rattle.reo_rules.specs.Dangling.{dangling_in}
-use Rattle.reo_rules.proofs.AfterLemmas.{judged_err}
+use Rattle.reo_rules_names.proofs.AfterLemmas.{judged_err}
 use Rattle.reo_rules_names.proofs.LoopLemmas.{Keeps, made_next, type_next, made_first}
 use Rattle.reo_rules_names.proofs.dangling.declarations_dangling.Goals as goal
 use Rattle.reo_rules_names.proofs.dangling.declarations_dangling.Goals.{in-Made+in_ok-connector_dangling+in_ok-add, in_default}

@@ -3,7 +3,7 @@ use Rattle.std.proofs.Common.{◌∙◌, ap, sym}
 use Rattle.std.specs.List.{flat_map}
 use Rattle.reo_trees.specs.declared.items.Item.{Item}
 use Rattle.reo_rules.specs.Dangling.{dangling_parameter, dangling_in_item}
-use Rattle.reo_rules.proofs.AfterLemmas.{judged_right, judged_same}
+use Rattle.reo_rules_names.proofs.AfterLemmas.{judged_right, judged_same}
 use Rattle.reo_rules_names.proofs.dangling.ends_dangling.Goals as goal
 
 pub returns : goal.returns

@@ -4,7 +4,7 @@ use Rattle.std.specs.List.{flat_map}
 use Rattle.std.proofs.lemmas.List.{take_all}
 use Rattle.reo_trees.specs.declared.items.Item.{Item}
 use Rattle.reo_rules.specs.Touches.{touches_in}
-use Rattle.reo_rules.proofs.AfterLemmas.{more_flat}
+use Rattle.reo_rules_names.proofs.AfterLemmas.{more_flat}
 use Rattle.reo_rules_names.specs.EndsAtNames.{AreEnds}
 use Rattle.reo_rules_names.proofs.dangling.item_ends.Goals as goal
 

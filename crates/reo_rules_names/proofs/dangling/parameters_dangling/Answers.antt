@@ -1,6 +1,6 @@
 -- The first break of one is the first of all.
 use Rattle.reo_rules.specs.Dangling.{dangling_parameter}
-use Rattle.reo_rules.proofs.AfterLemmas.{judged_err, flat_first, flat_more, flat_all}
+use Rattle.reo_rules_names.proofs.AfterLemmas.{judged_err, flat_first, flat_more, flat_all}
 use Rattle.reo_rules_names.proofs.dangling.parameters_dangling.Goals as goal
 
 pub returns-in_err-parameter_dangling : goal.returns-in_err-parameter_dangling

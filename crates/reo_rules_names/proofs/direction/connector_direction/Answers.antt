@@ -3,7 +3,7 @@ use Rattle.std.proofs.Common.{ap, ◌∙◌}
 use Rattle.std.specs.List.{flat_map}
 use Rattle.reo_trees.specs.declared.items.Item.{Item}
 use Rattle.reo_rules.specs.Direction.{direction_in_item}
-use Rattle.reo_rules.proofs.AfterLemmas.{judged_same}
+use Rattle.reo_rules_names.proofs.AfterLemmas.{judged_same}
 use Rattle.reo_rules_names.proofs.direction.connector_direction.Goals as goal
 
 pub returns : goal.returns

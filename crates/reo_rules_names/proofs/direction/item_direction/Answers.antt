@@ -6,7 +6,7 @@ use Rattle.reo_trees.specs.declared.programs.Parameter.{Parameter}
 use Rattle.reo_rules.specs.Scopes.{parameters_named}
 use Rattle.reo_rules.specs.Touches.{touch}
 use Rattle.reo_rules.specs.Direction.{direction_in_item}
-use Rattle.reo_rules.proofs.AfterLemmas.{judged_same}
+use Rattle.reo_rules_names.proofs.AfterLemmas.{judged_same}
 use Rattle.reo_rules_names.specs.Closed.{against}
 use Rattle.reo_rules_names.proofs.EndLemmas.{used_touches}
 use Rattle.reo_rules_names.proofs.direction.item_direction.Goals as goal

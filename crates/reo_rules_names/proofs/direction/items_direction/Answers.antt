@@ -1,7 +1,7 @@
 -- The first break of one is the first of all.
 use Rattle.reo_trees.specs.declared.items.Item.{Item}
 use Rattle.reo_rules.specs.Direction.{direction_in_item}
-use Rattle.reo_rules.proofs.AfterLemmas.{judged_err, flat_first, flat_more, flat_all}
+use Rattle.reo_rules_names.proofs.AfterLemmas.{judged_err, flat_first, flat_more, flat_all}
 use Rattle.reo_rules_names.proofs.direction.items_direction.Goals as goal
 
 pub returns-in_err-item_direction : goal.returns-in_err-item_direction

@@ -6,7 +6,7 @@ use Rattle.std.specs.Iterator.Adapters.{zip_first, zip_second}
 use Rattle.std.proofs.lemmas.Slice.Zip.{either_empty_from_Zip}
 use Rattle.reo_rules.specs.Touches.{touch}
 use Rattle.reo_rules.specs.Judged.{IsFirst}
-use Rattle.reo_rules.proofs.AfterLemmas.{judged_err, first_left}
+use Rattle.reo_rules_names.proofs.AfterLemmas.{judged_err, first_left}
 use Rattle.reo_rules_names.specs.Closed.{against}
 use Rattle.reo_rules_names.proofs.EndLemmas.{zip_over}
 use Rattle.reo_rules_names.proofs.direction.use_direction.Goals as goal

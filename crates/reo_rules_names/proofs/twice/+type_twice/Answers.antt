@@ -2,7 +2,7 @@
 use Rattle.std.proofs.Common.{◌∙◌, sym, subst, ap}
 use Rattle.reo_trees.specs.declared.types.Shape.TheVariants as shapes
 use Rattle.reo_rules.specs.Judged.{IsFirst, IsJudged}
-use Rattle.reo_rules.proofs.AfterLemmas.{judged_err, judged_right, first_left}
+use Rattle.reo_rules_names.proofs.AfterLemmas.{judged_err, judged_right, first_left}
 use Rattle.reo_rules_names.proofs.PartLemmas.{twice_parts, twice_parts-Pair}
 use Rattle.reo_rules_names.proofs.twice.+type_twice.Goals as goal
 

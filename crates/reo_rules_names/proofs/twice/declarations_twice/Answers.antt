@@ -7,7 +7,7 @@ use Rattle.reo_trees.specs.declared.programs.Declaration.{Declaration}
 use Rattle.reo_rules.specs.Scopes.{type_names, type_names_in, connectors_of, connectors_in, connector_names}
 use Rattle.reo_rules.specs.Twice.{twice_among, twice_in_type, twice_in_connector, twice_in}
 use Rattle.reo_rules.specs.Judged.{IsFirst}
-use Rattle.reo_rules.proofs.AfterLemmas.{judged_err, after_first, after_more, first_left, first_right, more_flat}
+use Rattle.reo_rules_names.proofs.AfterLemmas.{judged_err, after_first, after_more, first_left, first_right, more_flat}
 use Rattle.reo_rules_names.proofs.twice.declarations_twice.Goals as goal
 use Rattle.reo_rules_names.proofs.twice.declarations_twice.Goals.{in-Named+in_ok-once-in-Named+in_ok-type_twice-in-Named, in-Made+in_ok-once-in-Made+in_ok-connector_twice-in-Made}
 

@@ -10,7 +10,7 @@ use Rattle.reo_trees.specs.declared.items.ItemForm.TheVariants as forms
 use Rattle.reo_rules.specs.Scopes.{parameter_names, node_names, node_names_in}
 use Rattle.reo_rules.specs.Twice.{twice_among, twice_in_type, twice_in_item}
 use Rattle.reo_rules.specs.Judged.{IsFirst}
-use Rattle.reo_rules.proofs.AfterLemmas.{judged_err, after_first, after_more, first_left, first_right, more_flat}
+use Rattle.reo_rules_names.proofs.AfterLemmas.{judged_err, after_first, after_more, first_left, first_right, more_flat}
 use Rattle.reo_rules_names.proofs.twice.items_twice.Goals as goal
 use Rattle.reo_rules_names.proofs.twice.items_twice.Goals.{in-Node+in_ok-once+in_ok-type_twice, in_default}
 

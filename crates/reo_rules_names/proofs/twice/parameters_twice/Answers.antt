@@ -4,7 +4,7 @@ use Rattle.reo_values.proofs.Sequences.{both_none}
 use Rattle.reo_trees.specs.declared.programs.Parameter.{Parameter}
 use Rattle.reo_rules.specs.Twice.{twice_among, twice_in_type, twice_in_parameter}
 use Rattle.reo_rules.specs.Judged.{IsFirst}
-use Rattle.reo_rules.proofs.AfterLemmas.{judged_err, after_first, after_more, first_left, first_right, more_mapped}
+use Rattle.reo_rules_names.proofs.AfterLemmas.{judged_err, after_first, after_more, first_left, first_right, more_mapped}
 use Rattle.reo_rules_names.proofs.twice.parameters_twice.Goals as goal
 
 pub returns-in_err-once-clause-judged : goal.returns-in_err-once-clause-judged

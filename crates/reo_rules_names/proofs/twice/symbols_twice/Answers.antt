@@ -2,7 +2,7 @@
 use Rattle.std.proofs.Common.{◌∙◌, [], subst, sym, ap}
 use Rattle.reo_rules.specs.Twice.{twice_among}
 use Rattle.reo_rules.specs.Judged.{IsFirst}
-use Rattle.reo_rules.proofs.AfterLemmas.{judged_err, after_first, after_more, more_seen}
+use Rattle.reo_rules_names.proofs.AfterLemmas.{judged_err, after_first, after_more, more_seen}
 use Rattle.reo_rules_names.proofs.twice.symbols_twice.Goals as goal
 
 pub returns-in_err-once : goal.returns-in_err-once

@@ -2,7 +2,7 @@
 use Rattle.std.proofs.Common.{◌∙◌, [], ◌∷◌, ◌++◌, take, refl, ap, subst}
 use Rattle.std.proofs.lemmas.List.{take_all}
 use Rattle.reo_rules.specs.Lists.{has_name}
-use Rattle.reo_rules.proofs.AfterLemmas.{more_seen}
+use Rattle.reo_rules_names.proofs.AfterLemmas.{more_seen}
 use Rattle.reo_rules_names.specs.SameNames.{SameNames}
 use Rattle.reo_rules_names.proofs.SameLemmas.{same_noted}
 use Rattle.reo_rules_names.proofs.types.set_of.Goals as goal

@@ -3,7 +3,7 @@ use Rattle.std.proofs.Common.{◌∙◌, ◌++◌, sym, ap, subst}
 use Rattle.std.proofs.lemmas.List.{append-nil}
 use Rattle.reo_trees.specs.declared.terms.TermForm.TheVariants as terms
 use Rattle.reo_rules.specs.Judged.{IsFirst}
-use Rattle.reo_rules.proofs.AfterLemmas.{judged_err, judged_same, judged_right, first_left, first_right}
+use Rattle.reo_rules_names.proofs.AfterLemmas.{judged_err, judged_same, judged_right, first_left, first_right}
 use Rattle.reo_rules_names.proofs.TermLemmas.{in_term, in_term-One, in_term-Two, in_term-If}
 use Rattle.reo_rules_names.proofs.unknown.+term_unknown.Goals as goal
 

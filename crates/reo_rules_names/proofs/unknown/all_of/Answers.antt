@@ -1,6 +1,6 @@
 -- The first name that is missing is the first of all.
 use Rattle.reo_rules.specs.Unknown.{missing}
-use Rattle.reo_rules.proofs.AfterLemmas.{judged_err, flat_first}
+use Rattle.reo_rules_names.proofs.AfterLemmas.{judged_err, flat_first}
 use Rattle.reo_rules_names.proofs.unknown.all_of.Goals as goal
 
 pub returns-in_err-one_of : goal.returns-in_err-one_of

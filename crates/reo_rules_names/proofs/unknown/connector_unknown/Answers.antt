@@ -8,7 +8,7 @@ use Rattle.reo_rules.specs.Types.{names_of}
 use Rattle.reo_rules.specs.Scopes.{parameter_names, node_names}
 use Rattle.reo_rules.specs.Unknown.{unknown_in_item, unknown_in_type}
 use Rattle.reo_rules.specs.Judged.{IsFirst}
-use Rattle.reo_rules.proofs.AfterLemmas.{judged_err, judged_same, judged_right, first_left}
+use Rattle.reo_rules_names.proofs.AfterLemmas.{judged_err, judged_same, judged_right, first_left}
 use Rattle.reo_rules_names.proofs.UnknownLemmas.{types_same}
 use Rattle.reo_rules_names.proofs.unknown.connector_unknown.Goals as goal
 

@@ -5,7 +5,7 @@ use Rattle.reo_rules.specs.Types.{names_of, types_of}
 use Rattle.reo_rules.specs.Names.{with_name}
 use Rattle.reo_rules.specs.Scopes.{connector_names}
 use Rattle.reo_rules.specs.Judged.{IsFirst}
-use Rattle.reo_rules.proofs.AfterLemmas.{judged_err}
+use Rattle.reo_rules_names.proofs.AfterLemmas.{judged_err}
 use Rattle.reo_rules_names.proofs.UnknownLemmas.{Knows, type_known, connector_known, unknown_first, unknown_parts-same}
 use Rattle.reo_rules_names.proofs.unknown.declarations_unknown.Goals as goal
 use Rattle.reo_rules_names.proofs.unknown.declarations_unknown.Goals.{in-Named+in_ok-type_unknown-in-Named+in_ok-add-in-Named, in-Made+in_ok-connector_unknown-in-Made+in_ok-note-in-Made}

@@ -2,7 +2,7 @@
 use Rattle.std.proofs.Common.{◌∙◌, sym, ap}
 use Rattle.reo_rules.specs.Types.{names_of}
 use Rattle.reo_rules.specs.Unknown.{unknown_in_item}
-use Rattle.reo_rules.proofs.AfterLemmas.{judged_same}
+use Rattle.reo_rules_names.proofs.AfterLemmas.{judged_same}
 use Rattle.reo_rules_names.proofs.UnknownLemmas.{unknown_parts-same}
 use Rattle.reo_rules_names.proofs.unknown.item_unknown.Goals as goal
 

@@ -5,7 +5,7 @@ use Rattle.reo_trees.specs.declared.items.Item.{Item}
 use Rattle.reo_rules.specs.Scopes.{parameter_names, node_names, node_names_in}
 use Rattle.reo_rules.specs.Unknown.{unknown_in_item}
 use Rattle.reo_rules.specs.Judged.{IsFirst}
-use Rattle.reo_rules.proofs.AfterLemmas.{judged_err, after_first, after_more, after_all, more_flat}
+use Rattle.reo_rules_names.proofs.AfterLemmas.{judged_err, after_first, after_more, after_all, more_flat}
 use Rattle.reo_rules_names.specs.SameNames.{SameNames}
 use Rattle.reo_rules_names.proofs.UnknownLemmas.{item_same}
 use Rattle.reo_rules_names.proofs.unknown.items_unknown.Goals as goal

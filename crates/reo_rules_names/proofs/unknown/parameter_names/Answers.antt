@@ -4,7 +4,7 @@ use Rattle.std.proofs.lemmas.List.{take_all}
 use Rattle.reo_trees.specs.declared.programs.Parameter.{Parameter}
 use Rattle.reo_rules.specs.Lists.{has_name}
 use Rattle.reo_rules.specs.Scopes.{parameter_names}
-use Rattle.reo_rules.proofs.AfterLemmas.{more_mapped}
+use Rattle.reo_rules_names.proofs.AfterLemmas.{more_mapped}
 use Rattle.reo_rules_names.specs.SameNames.{SameNames}
 use Rattle.reo_rules_names.proofs.SameLemmas.{same_noted}
 use Rattle.reo_rules_names.proofs.unknown.parameter_names.Goals as goal

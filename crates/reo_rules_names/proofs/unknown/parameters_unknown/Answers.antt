@@ -1,7 +1,7 @@
 -- The first break of a parameter is the first of all.
 use Rattle.reo_trees.specs.declared.programs.Parameter.{Parameter}
 use Rattle.reo_rules.specs.Unknown.{unknown_in_type}
-use Rattle.reo_rules.proofs.AfterLemmas.{judged_err, flat_first}
+use Rattle.reo_rules_names.proofs.AfterLemmas.{judged_err, flat_first}
 use Rattle.reo_rules_names.proofs.unknown.parameters_unknown.Goals as goal
 
 pub returns-in_err-type_unknown : goal.returns-in_err-type_unknown

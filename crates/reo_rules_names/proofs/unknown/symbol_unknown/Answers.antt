@@ -6,7 +6,7 @@ use Rattle.reo_rules.specs.Lists.{has_name, where_true}
 use Rattle.reo_rules.specs.Types.{type_named}
 use Rattle.reo_rules.specs.Unknown.{lacking}
 use Rattle.reo_rules.specs.Judged.{IsFirst}
-use Rattle.reo_rules.proofs.AfterLemmas.{judged_err}
+use Rattle.reo_rules_names.proofs.AfterLemmas.{judged_err}
 use Rattle.reo_rules_names.proofs.unknown.symbol_unknown.Goals as goal
 
 first_missing : (b : Bool) (f e : FlatFault) (rest : List FlatFault) → IsFirst (where_true (not b) f) e → IsFirst (cond b rest (f ∷ [])) e

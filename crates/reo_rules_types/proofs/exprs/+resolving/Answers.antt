@@ -1,7 +1,7 @@
 -- What the parts stand for, and then the whole.
 use Rattle.std.proofs.Common.{◌≡◌, ◌∙◌, ◌<◌, length, sym, ap, subst}
 use Rattle.std.specs.Prelude.{IfOk}
-use Rattle.reo_values.proofs.Sequences.{no_value}
+use Rattle.reo_rules_types.proofs.Sequences.{no_value}
 use Rattle.reo_trees.specs.declared.terms.TermForm.TheVariants as forms
 use Rattle.reo_rules.specs.Terms.{symbol_in, expr_of}
 use Rattle.reo_rules_types.specs.Cells.{type_at}

@@ -2,7 +2,7 @@
 use Rattle.std.proofs.Common.{◌∙◌, Some, sym, ap}
 use Rattle.std.specs.Prelude.{option_map, bytes_eq}
 use Rattle.std.specs.List.{position_from}
-use Rattle.reo_values.proofs.Sequences.{no_value}
+use Rattle.reo_rules_types.proofs.Sequences.{no_value}
 use Rattle.reo_exprs.specs.declared.expr.Expr.TheVariants as exprs
 use Rattle.reo_rules.specs.Terms.{symbol_in}
 use Rattle.reo_rules_types.specs.Cells.{type_at}

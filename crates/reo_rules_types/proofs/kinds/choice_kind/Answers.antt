@@ -1,6 +1,6 @@
 -- A choice has a kind where its condition is of truth values and its parts are of one kind.
 use Rattle.std.proofs.Common.{◌∙◌, ap, sym, ◌&&◌}
-use Rattle.reo_values.proofs.Truths.{and_false}
+use Rattle.std.proofs.Math.Bool.{and-false}
 use Rattle.reo_exprs.specs.Kinds.{is_bool}
 use Rattle.reo_rules.specs.Types.{is_same}
 use Rattle.reo_rules_types.specs.Cells.{type_at}
@@ -21,6 +21,6 @@ returns-else-is_bool c =
     let z = type_at types c.args.no in
     not_chosen x y z c.requires.yes_bare c.requires.no_bare
     (elim c.else-is_bool.branch [
-      | else-is_bool-via-then-is_bool+else-same w ↦ ap (λ b. is_bool x && b) (sym w.if-same.ensures) ∙ and_false (is_bool x)
+      | else-is_bool-via-then-is_bool+else-same w ↦ ap (λ b. is_bool x && b) (sym w.if-same.ensures) ∙ and-false (is_bool x)
       | else-is_bool-via-else-is_bool w ↦ ap (λ b. b && is_same y z) (sym w.if-is_bool.ensures)
     ])

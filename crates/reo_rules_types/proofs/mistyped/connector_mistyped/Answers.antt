@@ -10,7 +10,7 @@ use Rattle.reo_rules.specs.Types.{Typed, types_of}
 use Rattle.reo_rules.specs.Scopes.{connectors_of, scope_of}
 use Rattle.reo_rules.specs.Mistyped.{is_mistyped}
 use Rattle.reo_rules.specs.Judged.{IsFirst}
-use Rattle.reo_rules.proofs.AfterLemmas.{judged_err}
+use Rattle.reo_rules_types.proofs.AfterLemmas.{judged_err}
 use Rattle.reo_rules_types.proofs.Kept.{keeps_both}
 use Rattle.reo_rules_types.proofs.Scoped.{known_kept}
 use Rattle.reo_rules_types.proofs.Standing.{stands_kept, stands_made}

@@ -6,12 +6,12 @@ use Rattle.reo_rules.specs.Twice.{twice_in, twice_in_type, twice_in_connector}
 use Rattle.reo_rules.specs.Unknown.{unknown_in}
 use Rattle.reo_rules.specs.Mistyped.{mistyped_in}
 use Rattle.reo_rules.specs.Judged.{IsFirst}
-use Rattle.reo_rules.proofs.AfterLemmas.{judged_err, after_first, after_more, more_seen, right_none, where_false}
-use Rattle.reo_rules.proofs.Declared.{names_of-types}
+use Rattle.reo_rules_types.proofs.AfterLemmas.{judged_err, after_first, after_more, more_seen, right_none, where_false}
+use Rattle.reo_rules_types.proofs.Declared.{names_of-types}
 use Rattle.reo_rules_types.proofs.Names.{after_at, keys_are}
 use Rattle.reo_rules_types.proofs.Standing.{stands_named}
 use Rattle.reo_values.specs.declared.kindred.Kindred.{Kindred}
-use Rattle.reo_values.proofs.Sequences.{left_none}
+use Rattle.reo_rules_types.proofs.Sequences.{left_none}
 use Rattle.reo_rules_types.specs.declared.known.Known.{Known}
 use Rattle.reo_rules_types.specs.Scoped.{AreKnown}
 use Rattle.reo_rules_types.specs.Stands.{Stands}

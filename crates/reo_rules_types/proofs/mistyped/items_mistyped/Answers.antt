@@ -6,7 +6,7 @@ use Rattle.reo_rules.specs.Lists.{where_true, first_of}
 use Rattle.reo_rules.specs.Types.{types_of}
 use Rattle.reo_rules.specs.Scopes.{connectors_of}
 use Rattle.reo_rules.specs.Mistyped.{is_mistyped}
-use Rattle.reo_rules.proofs.AfterLemmas.{flat_more, flat_first}
+use Rattle.reo_rules_types.proofs.AfterLemmas.{flat_more, flat_first}
 use Rattle.reo_rules_types.specs.Scoped.{typed}
 use Rattle.reo_rules_types.proofs.Kept.{keeps_both}
 use Rattle.reo_rules_types.proofs.Scoped.{known_kept, typed_kept}

@@ -3,7 +3,7 @@ use Rattle.std.proofs.Common.{◌∙◌, sym, ap, subst}
 use Rattle.reo_trees.specs.declared.types.Shape.TheVariants as shapes
 use Rattle.reo_rules.specs.Judged.{IsFirst, IsJudged}
 use Rattle.reo_rules.specs.Ranges.{range_in_type}
-use Rattle.reo_rules.proofs.AfterLemmas.{judged_err, judged_right, first_left}
+use Rattle.reo_rules_types.proofs.AfterLemmas.{judged_err, judged_right, first_left}
 use Rattle.reo_rules_types.proofs.Ranged.{range-Pair, parts_low}
 use Rattle.reo_rules_types.proofs.range.+shape_range.Goals as goal
 

@@ -8,7 +8,7 @@ use Rattle.reo_rules.specs.Types.{Typed}
 use Rattle.reo_rules.specs.Scopes.{scope_of}
 use Rattle.reo_rules.specs.Ranges.{range_in_type, range_in_item}
 use Rattle.reo_rules.specs.Judged.{IsFirst, IsJudged}
-use Rattle.reo_rules.proofs.AfterLemmas.{judged_err, judged_right, first_left}
+use Rattle.reo_rules_types.proofs.AfterLemmas.{judged_err, judged_right, first_left}
 use Rattle.reo_rules_types.specs.Scoped.{typed}
 use Rattle.reo_rules_types.proofs.Kept.{keeps_both}
 use Rattle.reo_rules_types.proofs.Scoped.{known_kept, typed_kept}

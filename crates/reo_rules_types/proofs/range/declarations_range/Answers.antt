@@ -1,14 +1,14 @@
 -- A type is judged, and then it is declared; a connector is judged.
 use Rattle.std.proofs.Common.{◌≡◌, ◌∙◌, ℕ, ◌+◌, List, [], ◌∷◌, ◌++◌, take, refl, sym, ap, subst}
 use Rattle.reo_values.specs.declared.kindred.Kindred.{Kindred}
-use Rattle.reo_values.proofs.Sequences.{left_none}
+use Rattle.reo_rules_types.proofs.Sequences.{left_none}
 use Rattle.reo_rules.specs.Lists.{has_name}
 use Rattle.reo_rules.specs.Types.{types_of, resolved}
 use Rattle.reo_rules.specs.Twice.{twice_in, twice_in_type, twice_in_connector}
 use Rattle.reo_rules.specs.Ranges.{range_in_type, range_in_connector, range_in}
 use Rattle.reo_rules.specs.Judged.{IsFirst}
-use Rattle.reo_rules.proofs.AfterLemmas.{judged_err, after_first, after_more, more_seen, right_none, where_false}
-use Rattle.reo_rules.proofs.Declared.{names_of-types}
+use Rattle.reo_rules_types.proofs.AfterLemmas.{judged_err, after_first, after_more, more_seen, right_none, where_false}
+use Rattle.reo_rules_types.proofs.Declared.{names_of-types}
 use Rattle.reo_rules_types.specs.Scoped.{typed, AreKnown}
 use Rattle.reo_rules_types.proofs.Scoped.{known_kept, typed_kept}
 use Rattle.reo_rules_types.proofs.Names.{after_at, keys_are}

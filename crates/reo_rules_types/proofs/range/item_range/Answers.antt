@@ -3,7 +3,7 @@ use Rattle.std.proofs.Common.{◌∙◌, ◌<◌, length, sym, ap, subst}
 use Rattle.reo_rules.specs.declared.fault.FlatFault.TheVariants as faults
 use Rattle.reo_rules.specs.Lists.{where_true}
 use Rattle.reo_rules.specs.Ranges.{leaves, range_in_item}
-use Rattle.reo_rules.proofs.AfterLemmas.{judged_same}
+use Rattle.reo_rules_types.proofs.AfterLemmas.{judged_same}
 use Rattle.reo_rules_types.specs.Cells.{type_at}
 use Rattle.reo_rules_types.specs.Scoped.{typed, number_named}
 use Rattle.reo_rules_types.proofs.Scoped.{named_is, named_below}

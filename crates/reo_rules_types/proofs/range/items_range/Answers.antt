@@ -3,7 +3,7 @@ use Rattle.std.proofs.Common.{◌∙◌, sym, subst}
 use Rattle.reo_trees.specs.declared.items.Item.{Item}
 use Rattle.reo_rules.specs.Ranges.{range_in_item}
 use Rattle.reo_rules.specs.Judged.{IsFirst}
-use Rattle.reo_rules.proofs.AfterLemmas.{judged_err, flat_more, flat_first}
+use Rattle.reo_rules_types.proofs.AfterLemmas.{judged_err, flat_more, flat_first}
 use Rattle.reo_rules_types.specs.Scoped.{typed}
 use Rattle.reo_rules_types.proofs.Kept.{keeps_both}
 use Rattle.reo_rules_types.proofs.Scoped.{known_kept, typed_kept}

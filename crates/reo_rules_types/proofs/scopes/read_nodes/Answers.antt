@@ -8,8 +8,8 @@ use Rattle.reo_trees.specs.declared.items.ItemForm.TheVariants as forms
 use Rattle.reo_rules.specs.Lists.{has_name}
 use Rattle.reo_rules.specs.Types.{Typed}
 use Rattle.reo_rules.specs.Scopes.{node_types_in}
-use Rattle.reo_rules.proofs.AfterLemmas.{more_flat}
-use Rattle.reo_rules.proofs.Declared.{names_of-nodes}
+use Rattle.reo_rules_types.proofs.AfterLemmas.{more_flat}
+use Rattle.reo_rules_types.proofs.Declared.{names_of-nodes}
 use Rattle.reo_rules_types.specs.Scoped.{typed, AreKnown}
 use Rattle.reo_rules_types.proofs.Kept.{keeps_both}
 use Rattle.reo_rules_types.proofs.Scoped.{known_kept, typed_kept, names_typed}

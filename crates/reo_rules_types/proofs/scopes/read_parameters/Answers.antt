@@ -5,8 +5,8 @@ use Rattle.reo_trees.specs.declared.programs.Parameter.{Parameter}
 use Rattle.reo_rules.specs.Lists.{has_name}
 use Rattle.reo_rules.specs.Types.{resolved}
 use Rattle.reo_rules.specs.Scopes.{parameter_type}
-use Rattle.reo_rules.proofs.AfterLemmas.{more_mapped}
-use Rattle.reo_rules.proofs.Declared.{names_of-parameters}
+use Rattle.reo_rules_types.proofs.AfterLemmas.{more_mapped}
+use Rattle.reo_rules_types.proofs.Declared.{names_of-parameters}
 use Rattle.reo_rules_types.specs.Scoped.{typed, AreKnown}
 use Rattle.reo_rules_types.specs.Signed.{AreOf}
 use Rattle.reo_rules_types.proofs.Kept.{keeps_both}

@@ -1,15 +1,15 @@
 -- The parameters, and then the nodes.
 use Rattle.std.proofs.Common.{◌∙◌, [], ◌++◌, map, ap, subst}
 use Rattle.std.specs.List.{flat_map}
-use Rattle.reo_values.proofs.Sequences.{left_none}
+use Rattle.reo_rules_types.proofs.Sequences.{left_none}
 use Rattle.reo_trees.specs.declared.items.Item.{Item}
 use Rattle.reo_trees.specs.declared.programs.Parameter.{Parameter}
 use Rattle.reo_rules.specs.Lists.{each_after}
 use Rattle.reo_rules.specs.Types.{resolved}
 use Rattle.reo_rules.specs.Scopes.{node_types_in, parameter_type}
 use Rattle.reo_rules.specs.Twice.{twice_in_parameter, twice_in_item}
-use Rattle.reo_rules.proofs.AfterLemmas.{right_none}
-use Rattle.reo_rules.proofs.Declared.{names_of-parameters}
+use Rattle.reo_rules_types.proofs.AfterLemmas.{right_none}
+use Rattle.reo_rules_types.proofs.Declared.{names_of-parameters}
 use Rattle.reo_rules_types.specs.Scoped.{typed}
 use Rattle.reo_rules_types.specs.Signed.{AreOf}
 use Rattle.reo_rules_types.proofs.Scoped.{known_kept, typed_kept}

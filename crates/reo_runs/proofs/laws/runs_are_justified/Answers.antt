@@ -1,5 +1,5 @@
 use Rattle.reo_rounds.specs.Rules.{rules_of}
-use Rattle.reo_rounds.proofs.OrderLemmas.{KeepsShape}
+use Rattle.reo_rounds.specs.Lasting.{KeepsShape}
 use Rattle.reo_runs.proofs.JustifiedLemmas.{run_justified}
 use Rattle.reo_runs.proofs.laws.runs_are_justified.Goals as goal
 

@@ -1,7 +1,7 @@
 use Rattle.std.proofs.Common.{ℕ, Bool}
 use Rattle.reo_net_base.specs.Net.{Net, net_of}
 use Rattle.reo_joint_values.specs.Values.{Names}
-use Rattle.reo_search.specs.choices.Searched.{inside_of, names_in}
+use Rattle.reo_search.specs.choices.KnotSearch.{inside_of, names_in}
 use Rattle.reo_search.proofs.choices.Counted.{some_covered}
 use Rattle.reo_search.proofs.Named.{some_chosen}
 use Rattle.reo_search.proofs.searching.first_numbers.Goals as goal

@@ -20,7 +20,7 @@ use Rattle.reo_walk.proofs.Knotted.{AllOf, all_places}
 use Rattle.reo_walk.proofs.Listing.{real, listed_sides, among_same, knot_among, among_real, each_real, some}
 use Rattle.reo_search.proofs.choices.Remains.{covers, weight_left}
 use Rattle.reo_search.proofs.Named.{are_named}
-use Rattle.reo_search.proofs.Searched.{loops_those, loops_are_in, wide_set, narrow_set, narrow_joints, ticks_below, rows_in_tables, part_first, jam_exact}
+use Rattle.reo_search.proofs.KnotSearch.{loops_those, loops_are_in, wide_set, narrow_set, narrow_joints, ticks_below, rows_in_tables, part_first, jam_exact}
 use Rattle.reo_search.proofs.searching.first_on.Goals as goal
 
 pub has_wide-requires-clause-closed : goal.has_wide-requires-clause-closed

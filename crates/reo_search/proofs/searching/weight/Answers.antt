@@ -14,7 +14,7 @@ use Rattle.reo_search.specs.choices.Remaining.{AreLoopsIn, IsLeftOfAll}
 use Rattle.reo_walk.proofs.Listing.{among_same, knot_among, among_real}
 use Rattle.reo_search.proofs.choices.Remains.{weight_left}
 use Rattle.reo_search.proofs.Named.{are_named}
-use Rattle.reo_search.proofs.Searched.{loops_those, loops_are_in}
+use Rattle.reo_search.proofs.KnotSearch.{loops_those, loops_are_in}
 use Rattle.reo_search.proofs.searching.weight.Goals as goal
 
 pub narrow_all-requires-clause-closed : goal.narrow_all-requires-clause-closed

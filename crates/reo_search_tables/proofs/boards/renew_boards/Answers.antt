@@ -2,7 +2,7 @@ use Rattle.std.proofs.Common.{ℕ, ◌<◌, List, length, get_or, set, sym, subs
 use Rattle.reo_net_base.specs.Net.{Net, net_of}
 use Rattle.reo_side_tables.specs.declared.board.Board.{Board}
 use Rattle.reo_side_tables.specs.Boards.{IsBoard}
-use Rattle.reo_propagate.proofs.Among.{among_at}
+use Rattle.reo_search_tables.proofs.Among.{among_at}
 use Rattle.reo_search_tables.proofs.Renewed.{IsPut, set_put, set_here, stays_more, right_more}
 use Rattle.reo_search_tables.proofs.boards.renew_boards.Goals as goal
 

@@ -1,7 +1,7 @@
 use Rattle.std.proofs.Common.{◌≡◌, ◌∙◌, ℕ, ◌<◌, Bool, true, List, length, get_or, arith}
 use Rattle.reo_net_base.specs.Net.{Net, net_of, no_side, row_count}
 use Rattle.reo_side_tables.specs.Marks.{side_in}
-use Rattle.reo_propagate.proofs.Among.{among_at}
+use Rattle.reo_search_tables.proofs.Among.{among_at}
 use Rattle.reo_search_tables.proofs.Renewed.{IsPut, row_put, row_length, stays_more, right_more}
 use Rattle.reo_search_tables.proofs.notes.renew_live.Goals as goal
 

@@ -1,7 +1,7 @@
 use Rattle.std.proofs.Common.{◌≡◌, ◌∙◌, ℕ, ◌<◌, List, length, get_or, set, ap, arith}
 use Rattle.reo_net_base.specs.Net.{Net, net_of, no_side}
 use Rattle.reo_side_tables.specs.Marks.{groups_in}
-use Rattle.reo_propagate.proofs.Among.{among_at}
+use Rattle.reo_search_tables.proofs.Among.{among_at}
 use Rattle.reo_rows.specs.declared.groups.Group.{Group}
 use Rattle.reo_search_tables.proofs.Renewed.{IsPut, set_put, set_here, stays_more, right_more}
 use Rattle.reo_search_tables.proofs.notes.renew_notes.Goals as goal

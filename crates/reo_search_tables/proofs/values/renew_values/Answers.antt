@@ -1,6 +1,6 @@
 use Rattle.std.proofs.Common.{◌≡◌, ◌∙◌, ℕ, ◌+◌, ◌<◌, Bool, List, length, get_or, ap, arith}
 use Rattle.reo_reach.specs.Supplied.{items_at}
-use Rattle.reo_propagate.proofs.Among.{among_at}
+use Rattle.reo_search_tables.proofs.Among.{among_at}
 use Rattle.reo_search_tables.proofs.Renewed.{IsPut, row_put, row_length, stays_more, right_more}
 use Rattle.reo_search_tables.proofs.values.renew_values.Goals as goal
 

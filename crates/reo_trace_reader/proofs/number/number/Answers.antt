@@ -1,5 +1,5 @@
 use Rattle.std.proofs.Common.{◌∙◌, sym}
-use Rattle.reo_values.proofs.decimals.Digits.{number_front, decimal_same}
+use Rattle.reo_trace_reader.proofs.Digits.{number_front, decimal_same}
 use Rattle.reo_trace_reader.proofs.number.number.Goals as goal
 
 pub returns-in-Some-clause-again : goal.returns-in-Some-clause-again

@@ -1,12 +1,12 @@
 -- One item more.
 use Rattle.std.proofs.Common.{arith, ◌≡◌, ◌∙◌, ◌++◌, ◌<◌, sym, ap, subst, take, get_or, List, [], length}
 use Rattle.std.proofs.lemmas.List.{append-nil, append_assoc, length-take-le}
-use Rattle.reo_values.proofs.Sequences.{left_none}
+use Rattle.reo_unfold.proofs.Sequences.{left_none}
 use Rattle.reo_trees.specs.declared.items.Item.{Item}
 use Rattle.reo_rules.specs.Twice.{twice_in_parameter, twice_in_item}
 use Rattle.reo_rules.specs.Lists.{each_after}
 use Rattle.reo_rules.specs.Scopes.{parameter_names, node_names, node_names_in}
-use Rattle.reo_rules.proofs.AfterLemmas.{right_none, more_flat}
+use Rattle.reo_unfold.proofs.AfterLemmas.{right_none, more_flat}
 use Rattle.reo_unfold.specs.Local.{node_place, IsNew}
 use Rattle.reo_unfold.proofs.ListLemmas.{each_none, each_after-more}
 use Rattle.reo_unfold.proofs.LocalLemmas.{new_node}

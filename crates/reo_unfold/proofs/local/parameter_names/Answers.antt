@@ -4,7 +4,7 @@ use Rattle.reo_trees.specs.declared.programs.Parameter.{Parameter}
 use Rattle.reo_rules.specs.Lists.{has_name}
 use Rattle.reo_rules.specs.Names.{with_name}
 use Rattle.reo_rules.specs.Twice.{twice_in_parameter}
-use Rattle.reo_rules.proofs.AfterLemmas.{more_mapped}
+use Rattle.reo_unfold.proofs.AfterLemmas.{more_mapped}
 use Rattle.reo_rules.proofs.Distinct.{noted_new}
 use Rattle.reo_unfold.proofs.ListLemmas.{each_none}
 use Rattle.reo_unfold.proofs.LocalLemmas.{new_parameter}

@@ -1,7 +1,7 @@
 -- One name more.
 use Rattle.std.proofs.Common.{◌∙◌, ◌++◌, ◌∷◌, [], ap}
 use Rattle.reo_flat.specs.Unfolding.{flat_name}
-use Rattle.reo_rules.proofs.AfterLemmas.{more_mapped}
+use Rattle.reo_unfold.proofs.AfterLemmas.{more_mapped}
 use Rattle.reo_unfold.proofs.names.flat_names.Goals as goal
 
 pub loop-name-preserved : goal.loop-name-preserved

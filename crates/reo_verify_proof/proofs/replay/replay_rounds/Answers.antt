@@ -1,6 +1,6 @@
 use Rattle.std.proofs.Common.{◌∙◌, ◌+◌, ◌<◌, ◌^◌, ℕ, List, length, refl, sym, subst, arith, rules}
 use Rattle.reo_rounds.specs.Rules.{rules_of}
-use Rattle.reo_rounds.proofs.OrderLemmas.{KeepsShape}
+use Rattle.reo_rounds.specs.Lasting.{KeepsShape}
 use Rattle.reo_runs.specs.Round.{State}
 use Rattle.reo_runs.specs.Run.{Place}
 use Rattle.reo_runs.proofs.at_ports.Kept.{self_but}

@@ -1,7 +1,7 @@
 use Rattle.std.proofs.Common.{◌≡◌, ◌∙◌, length, map, ap, refl, sym, rules, arith}
 use Rattle.std.proofs.lemmas.List.{length-map}
 use Rattle.reo_net_base.specs.Net.{Net, Wiring, net_of}
-use Rattle.reo_settling.proofs.Plannings.{fewer_twice}
+use Rattle.reo_engine.proofs.Plannings.{fewer_twice}
 use Rattle.reo_engine.proofs.FlowsLemmas.{flows_stay}
 use Rattle.reo_engine.specs.Goers.{is_keeper}
 use Rattle.reo_engine.proofs.Going.{goers_stay, keeper_stays, map_settled}

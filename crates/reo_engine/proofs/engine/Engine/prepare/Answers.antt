@@ -3,7 +3,7 @@ use Rattle.reo_net_base.specs.Net.{Net, net_of}
 use Rattle.reo_net_laws.specs.Knots.{knot_count}
 use Rattle.reo_weights.proofs.CauseLemmas.{within_not_over}
 use Rattle.reo_settling.specs.Plannings.{Kept, AllServe, is_open}
-use Rattle.reo_settling.proofs.Plannings.{all_served}
+use Rattle.reo_engine.proofs.Plannings.{all_served}
 use Rattle.reo_engine.specs.Flows.{MayBeRows}
 use Rattle.reo_engine.proofs.FlowsLemmas.{told_by_test}
 use Rattle.reo_engine.proofs.engine.Engine.prepare.Goals as goal

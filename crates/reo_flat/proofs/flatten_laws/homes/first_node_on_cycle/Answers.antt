@@ -1,6 +1,6 @@
-use Rattle.std.proofs.Common.{arith, ◌≡◌, ◌⊎◌, inl, inr, ℕ, ◌<◌, ◌≤◌, List, length}
+use Rattle.std.proofs.Common.{arith, ◌⊎◌, inl, inr, ℕ, ◌<◌, ◌≤◌, List, length}
+use Rattle.std.proofs.lemmas.Bool.{cases_lt}
 use Rattle.std.proofs.lemmas.List.{length-map}
-use Rattle.reo_values.proofs.Naturals.{lt_cases}
 use Rattle.reo_net_base.specs.Wired.{IsLeastOnCycle, OnCycle}
 use Rattle.reo_net_base.specs.declared.joint.Joint.{Joint}
 use Rattle.reo_net_base.specs.Net.{side_at}
@@ -15,4 +15,4 @@ at_most from to j is k on (inr le) = le
 pub returns : goal.returns
 returns c ds node is k on =
     let below : k < length (homes_in ds) = omega (arith, on.0, length-map (joints_in ds) (λ (j : Joint). side_at (net_of_program ds) j.giver), c.homes_fit.ensures ds) in
-    c.homes_rise.ensures ds is.joint k (at_most _ _ is.joint is.least k on (lt_cases k is.joint)) below
+    c.homes_rise.ensures ds is.joint k (at_most _ _ is.joint is.least k on (cases_lt k is.joint)) below

@@ -4,7 +4,7 @@ use Rattle.reo_rounds.specs.Rules.{rules_of}
 use Rattle.reo_live.specs.base.Lines.{ended_lines, open_line}
 use Rattle.reo_live.specs.base.Live.{Stand}
 use Rattle.reo_rounds.specs.Order.{HasOrder}
-use Rattle.reo_rounds.proofs.OrderLemmas.{KeepsShape}
+use Rattle.reo_rounds.specs.Lasting.{KeepsShape}
 use Rattle.reo_live.proofs.base.OrderLemmas.{all_order}
 use Rattle.reo_live.proofs.base.SumLemmas.{stand-stays}
 use Rattle.reo_live.proofs.base.ExistsLemmas.{after_exists, last_exists}

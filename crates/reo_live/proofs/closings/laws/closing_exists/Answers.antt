@@ -1,6 +1,6 @@
 use Rattle.std.proofs.Common.{[], take, refl}
 use Rattle.reo_rounds.specs.Rules.{rules_of}
-use Rattle.reo_rounds.proofs.OrderLemmas.{KeepsShape}
+use Rattle.reo_rounds.specs.Lasting.{KeepsShape}
 use Rattle.reo_live.specs.base.Live.{beginning}
 use Rattle.reo_live.specs.closings.Sources.{most_events}
 use Rattle.reo_live.proofs.closings.ClosingLemmas.{goes_on, after_none}

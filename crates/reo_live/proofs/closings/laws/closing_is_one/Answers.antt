@@ -1,5 +1,5 @@
 use Rattle.reo_rounds.specs.Rules.{rules_of}
-use Rattle.reo_rounds.proofs.OrderLemmas.{KeepsShape}
+use Rattle.reo_rounds.specs.Lasting.{KeepsShape}
 use Rattle.reo_live.proofs.closings.OneClosing.{closing_one}
 use Rattle.reo_live.proofs.closings.laws.closing_is_one.Goals as goal
 

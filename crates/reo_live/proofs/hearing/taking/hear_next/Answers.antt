@@ -1,7 +1,7 @@
 use Rattle.std.proofs.Common.{rules}
 use Rattle.reo_live.specs.closings.Sources.{state_of}
 use Rattle.reo_rounds.specs.Rules.{rules_of}
-use Rattle.reo_rounds.proofs.OrderLemmas.{KeepsShape}
+use Rattle.reo_rounds.specs.Lasting.{KeepsShape}
 use Rattle.reo_live.proofs.hearing.HeardLemmas.{piece_next}
 use Rattle.reo_live.proofs.hearing.TakeLemmas.{close_next, missed_next}
 use Rattle.reo_live.proofs.hearing.taking.hear_next.Goals as goal

@@ -2,7 +2,7 @@ use Rattle.std.proofs.Common.{◌∙◌, false, refl, sym, subst, arith}
 use Rattle.reo_net_base.specs.Net.{Wiring, net_of}
 use Rattle.reo_rounds.specs.Order.{HasOrder}
 use Rattle.reo_rounds.specs.Rules.{rules_of}
-use Rattle.reo_rounds.proofs.OrderLemmas.{KeepsShape}
+use Rattle.reo_rounds.specs.Lasting.{KeepsShape}
 use Rattle.reo_live.specs.base.Held.{Held}
 use Rattle.reo_live.specs.declared.talk.fault.Going.TheVariants as goings
 use Rattle.reo_live.specs.declared.talk.fault.LiveFault.TheVariants as faults

@@ -1,6 +1,6 @@
 use Rattle.std.proofs.Common.{◌≡◌, ◌∙◌, ℕ, ◌<◌, Option, ap, sym, subst, set, slice_index, refl, arith, List, false}
+use Rattle.std.proofs.lemmas.Bool.{not-true}
 use Rattle.std.specs.Prelude.{MatchOption}
-use Rattle.reo_values.proofs.Truths.{not_true}
 use Rattle.reo_mark_sets.specs.declared.marks.PlainMarks.{PlainMarks}
 use Rattle.reo_mark_sets.specs.PlainMarks.{marks_at, both}
 use Rattle.reo_mark_sets.specs.Tallies.{IsFirstInTurn}
@@ -10,7 +10,7 @@ use Rattle.reo_mark_sets.proofs.sets.MarkSets.class_merging.Goals as goal
 pub returns-then-not-at : goal.returns-then-not-at
 returns-then-not-at c =
     let some : 0 < c.args.branches.count = omega arith in
-    let still : c.at.result.flow ≡ false = not_true c.at.result.flow c.if-not-at.true in
+    let still : c.at.result.flow ≡ false = not-true c.at.result.flow c.if-not-at.true in
     unchanged c.args.branches c.args.places.now c.requires.width some c.args.self.now (ap (λ (m : PlainMarks). m.flow) (sym c.at.ensures) ∙ still) c.args.turn
 
 pub returns-in-Some : goal.returns-in-Some

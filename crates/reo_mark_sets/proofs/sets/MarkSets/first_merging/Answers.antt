@@ -1,6 +1,6 @@
 use Rattle.std.proofs.Common.{◌≡◌, ◌∙◌, ℕ, ◌<◌, ◌≤◌, Bool, false, Option, ap, sym, subst, slice_index, arith}
+use Rattle.std.proofs.lemmas.Bool.{not-true}
 use Rattle.std.specs.Prelude.{MatchOption}
-use Rattle.reo_values.proofs.Truths.{not_true}
 use Rattle.reo_mark_sets.specs.declared.marks.PlainMarks.{PlainMarks}
 use Rattle.reo_mark_sets.specs.PlainMarks.{marks_at}
 use Rattle.reo_mark_sets.specs.Tallies.{IsFirstBetween}
@@ -13,7 +13,7 @@ Found test from to r = MatchOption r ((o : ℕ) → from ≤ o → o < to → te
 pub returns-then-not-output : goal.returns-then-not-output
 returns-then-not-output c =
     let some : 0 < c.args.branches.count = omega arith in
-    no_output_first c.args.branches c.args.places.now c.requires.width some c.args.self.now (ap (λ (m : PlainMarks). m.flow) (sym c.at-output.ensures) ∙ not_true c.at-output.result.flow c.if-not-output.true) c.at-output.result c.at-output.ensures c.still_row.result c.still_row.ensures
+    no_output_first c.args.branches c.args.places.now c.requires.width some c.args.self.now (ap (λ (m : PlainMarks). m.flow) (sym c.at-output.ensures) ∙ not-true c.at-output.result.flow c.if-not-output.true) c.at-output.result c.at-output.ensures c.still_row.result c.still_row.ensures
 
 pub returns-in-Some : goal.returns-in-Some
 returns-in-Some c =

@@ -1,7 +1,7 @@
 use Rattle.std.proofs.Common.{◌∙◌, ℕ, sym}
 use Rattle.reo_net_base.specs.Behaviour.{Behaviour}
 use Rattle.reo_net_base.specs.Net.{Net, net_of, behaviour_at, row_at, mark_at}
-use Rattle.reo_net_laws.proofs.Sides.{gives_at}
+use Rattle.reo_net.proofs.Sides.{gives_at}
 use Rattle.reo_net.proofs.colouring.ItemLemmas.{given_none, given_some}
 use Rattle.reo_net.proofs.colouring.items.given_for.Goals as goal
 

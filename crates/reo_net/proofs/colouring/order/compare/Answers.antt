@@ -4,7 +4,7 @@ use Rattle.std.specs.Ordering.{nat_cmp, ordering_then}
 use Rattle.std.specs.Cmp.Lexicographic.{slice_cmp}
 use Rattle.reo_net_base.specs.Net.{Net, Side, net_of, all_sides}
 use Rattle.reo_net_base.specs.First.{leading_positions, class_positions, order_by}
-use Rattle.reo_net_laws.proofs.Sides.{rows_length}
+use Rattle.reo_net.proofs.Sides.{rows_length}
 use Rattle.reo_net.proofs.colouring.KeyLemmas.{then_differs, then_same, order_is}
 use Rattle.reo_net.proofs.colouring.order.compare.Goals as goal
 

@@ -2,7 +2,7 @@ use Rattle.std.proofs.Common.{ℕ, get_or, below_more, arith}
 use Rattle.reo_net_base.specs.declared.joint.Joint.{Joint}
 use Rattle.reo_net_base.specs.Net.{Net, net_of}
 use Rattle.reo_net_base.specs.Colouring.{JointMatches}
-use Rattle.reo_net_laws.proofs.Sides.{side_in_range}
+use Rattle.reo_net.proofs.Sides.{side_in_range}
 use Rattle.reo_net.specs.plain.Chosen.{IsBetween}
 use Rattle.reo_net.proofs.plain.ChosenLemmas.{match_agrees}
 use Rattle.reo_net.proofs.plain.clash.clashes.Goals as goal

@@ -4,7 +4,7 @@ use Rattle.std.proofs.lemmas.Result.{IfOk-weaker}
 use Rattle.std.proofs.lemmas.List.{length-set}
 use Rattle.reo_net_base.specs.Net.{Net, net_of, all_sides, no_side}
 use Rattle.reo_net_base.specs.Sides.{side_count, AreRowsOf}
-use Rattle.reo_net_laws.proofs.Sides.{rows_length, row_below}
+use Rattle.reo_net.proofs.Sides.{rows_length, row_below}
 use Rattle.reo_net.specs.plain.Chosen.{Agrees, Improves}
 use Rattle.reo_net.proofs.plain.ChosenLemmas.{rows_put, agrees_less, left_again, fewer_left, agrees_whole, colouring_length, improves_fewer, improves_more}
 use Rattle.reo_net.proofs.plain.search.+best_from.Goals as goal

@@ -1,7 +1,7 @@
 use Rattle.std.proofs.Common.{◌<◌, List, length, refl, arith}
 use Rattle.reo_net_base.specs.Net.{Side, no_side, all_sides, net_of}
 use Rattle.reo_net_circuit.proofs.circuit.Circuit.are_rows.Goals as goal
-use Rattle.reo_net_laws.proofs.Sides.{are_rows, row_below, rows_length}
+use Rattle.reo_net_circuit.proofs.Sides.{are_rows, row_below, rows_length}
 
 pub returns-then-rows-sides : goal.returns-then-rows-sides
 returns-then-rows-sides g c =

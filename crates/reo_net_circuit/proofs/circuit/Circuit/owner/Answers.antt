@@ -2,7 +2,7 @@ use Rattle.std.proofs.Common.{◌<◌, List, length, map, arith}
 use Rattle.std.proofs.lemmas.List.{length-map}
 use Rattle.reo_net_base.specs.Behaviour.{Behaviour}
 use Rattle.reo_net_circuit.proofs.circuit.Circuit.owner.Goals as goal
-use Rattle.reo_net_laws.proofs.Sides.{side_is}
+use Rattle.reo_net_circuit.proofs.Sides.{side_is}
 
 pub returns-clause-owner : goal.returns-clause-owner
 returns-clause-owner g c = λ e.

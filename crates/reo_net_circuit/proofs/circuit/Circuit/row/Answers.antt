@@ -2,7 +2,7 @@
 use Rattle.std.proofs.Common.{arith}
 use Rattle.reo_net_base.specs.Net.{Net, all_sides, net_of}
 use Rattle.reo_net_circuit.proofs.circuit.Circuit.row.Goals as goal
-use Rattle.reo_net_laws.proofs.Sides.{rows_length, row_below}
+use Rattle.reo_net_circuit.proofs.Sides.{rows_length, row_below}
 
 pub bounds-rows-side : goal.bounds-rows-side
 bounds-rows-side g c =

@@ -2,7 +2,7 @@ use Rattle.std.proofs.Common.{refl, sym, ◌∙◌, codes}
 use Rattle.reo_grammar.specs.Tokens.Class.{other}
 use Rattle.reo_trees.specs.Forms.{listed}
 use Rattle.reo_trees.specs.ItemsTwo.{item_two}
-use Rattle.reo_terms.proofs.Turns.{one_turn}
+use Rattle.reo_parser.proofs.Turns.{one_turn}
 use Rattle.reo_parser.proofs.items_two.bodies.items.Goals as goal
 
 pub items-smaller : goal.items-smaller

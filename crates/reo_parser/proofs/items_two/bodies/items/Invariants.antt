@@ -2,7 +2,7 @@ use Rattle.std.proofs.Common.{◌≡◌, [], length, codes}
 use Rattle.reo_grammar.specs.Tokens.Class.{other}
 use Rattle.reo_trees.specs.Forms.{listed}
 use Rattle.reo_trees.specs.ItemsTwo.{item_two}
-use Rattle.reo_terms.proofs.Turns.{goes_on}
+use Rattle.reo_parser.proofs.Turns.{goes_on}
 use Rattle.reo_parser.proofs.items_two.bodies.items.Given as goal
 
 abbrev pub invariant-items : goal.invariant-items

@@ -4,7 +4,7 @@ use Rattle.reo_grammar.specs.Tokens.Class.{other}
 use Rattle.reo_grammar.specs.Grammar.Grammar.{rule}
 use Rattle.reo_trees.specs.Forms.{listed}
 use Rattle.reo_trees.specs.Forms.Rule.{looped_rule}
-use Rattle.reo_terms.proofs.Turns.{one_turn}
+use Rattle.reo_parser.proofs.Turns.{one_turn}
 use Rattle.reo_parser.proofs.items_two.Stopped.{looped-stops}
 use Rattle.reo_parser.proofs.items_two.loops.+looped.Goals as goal
 

@@ -3,7 +3,7 @@ use Rattle.reo_grammar.specs.Tokens.Class.{other}
 use Rattle.reo_grammar.specs.Grammar.Grammar.{rule}
 use Rattle.reo_trees.specs.Forms.{listed}
 use Rattle.reo_trees.specs.Forms.Rule.{looped_rule}
-use Rattle.reo_terms.proofs.Turns.{goes_on}
+use Rattle.reo_parser.proofs.Turns.{goes_on}
 use Rattle.reo_parser.proofs.items_two.loops.+looped.Given as goal
 
 abbrev pub decreases-looped : goal.decreases-looped

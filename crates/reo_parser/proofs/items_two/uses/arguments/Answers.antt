@@ -1,7 +1,7 @@
 use Rattle.std.proofs.Common.{refl, sym, ◌∙◌}
 use Rattle.std.proofs.lemmas.Result.{err_from_is_err_and}
 use Rattle.reo_trees.specs.Indexes.{ref_form}
-use Rattle.reo_terms.proofs.Turns.{comma_turn}
+use Rattle.reo_parser.proofs.Turns.{comma_turn}
 use Rattle.reo_parser.proofs.items_two.Stopped.{comma-stops}
 use Rattle.reo_parser.proofs.items_two.uses.arguments.Goals as goal
 

@@ -3,7 +3,7 @@ use Rattle.reo_grammar.specs.declared.kind.TokenKind.TheVariants as kinds
 use Rattle.reo_lexer.specs.Lexing.{lexeme_of, lexemes_of}
 use Rattle.reo_cursor.specs.Reading.{lexeme_seen}
 use Rattle.reo_terms.proofs.Counts.{operators-small, above-yes, above-no}
-use Rattle.reo_terms.proofs.Fronts.{take-next, nowhere-none, nowhere-more, lexemes-length}
+use Rattle.reo_parser.proofs.Fronts.{take-next, nowhere-none, nowhere-more, lexemes-length}
 use Rattle.reo_trees.specs.SaysTwo.{IsDeepTwo}
 use Rattle.reo_parser.specs.two.LoopDepth.{Deepens}
 use Rattle.reo_parser.proofs.two.Loops.{deepens-next}

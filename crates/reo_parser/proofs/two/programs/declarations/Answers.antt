@@ -2,7 +2,7 @@ use Rattle.std.proofs.Common.{refl, sym, ◌∙◌}
 use Rattle.reo_trees.specs.Forms.{listed}
 use Rattle.reo_trees.specs.Programs.{declaration_words}
 use Rattle.reo_trees.specs.ProgramsTwo.{declaration_two}
-use Rattle.reo_terms.proofs.Turns.{one_turn}
+use Rattle.reo_parser.proofs.Turns.{one_turn}
 use Rattle.reo_parser.proofs.two.programs.declarations.Goals as goal
 
 pub declarations-smaller : goal.declarations-smaller

@@ -2,7 +2,7 @@ use Rattle.std.proofs.Common.{◌≡◌, [], length}
 use Rattle.reo_trees.specs.Forms.{listed}
 use Rattle.reo_trees.specs.Programs.{declaration_words}
 use Rattle.reo_trees.specs.ProgramsTwo.{declaration_two}
-use Rattle.reo_terms.proofs.Turns.{goes_on}
+use Rattle.reo_parser.proofs.Turns.{goes_on}
 use Rattle.reo_parser.proofs.two.programs.declarations.Given as goal
 
 abbrev pub invariant-declarations : goal.invariant-declarations

@@ -4,7 +4,7 @@ use Rattle.reo_trees.specs.ProgramsTwo.{program_two}
 use Rattle.reo_trees.specs.Rules.{circuit_rules}
 use Rattle.reo_trees.specs.SaysTwo.{IsDeepTwo}
 use Rattle.reo_terms.proofs.Answering.{syntax-within}
-use Rattle.reo_terms.proofs.Fronts.{lexemes-length}
+use Rattle.reo_parser.proofs.Fronts.{lexemes-length}
 use Rattle.reo_parser.proofs.two.Answering.{some-second, syntax-second}
 use Rattle.reo_parser.proofs.two.texts.answer_within.Goals as goal
 

@@ -1,7 +1,7 @@
 use Rattle.std.proofs.Common.{refl, ℕ, ◌+◌, ◌<◌, List, length, sym, ◌∙◌, arith}
 use Rattle.reo_lexer.specs.declared.token.Token.{Token}
 use Rattle.reo_lexer.specs.Lexing.{lexemes_of}
-use Rattle.reo_terms.proofs.Fronts.{lexemes-length}
+use Rattle.reo_parser.proofs.Fronts.{lexemes-length}
 use Rattle.reo_trees.specs.ProgramsTwo.{program_two}
 use Rattle.reo_trees.specs.Rules.{circuit_rules}
 use Rattle.reo_trees.specs.Table.{circuit_table}

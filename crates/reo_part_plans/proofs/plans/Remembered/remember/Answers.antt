@@ -15,6 +15,10 @@ pub look_at_all-requires-clause-sides : goal.look_at_all-requires-clause-sides
 look_at_all-requires-clause-sides g c =
     part_below (net_of g.P.Primitive.behaviour c.args.part.now.planning.now.circuit.now) c.known.ensures.wired c.args.part.now.planning.now.knots.now c.requires.part.planning.knots c.args.part.now.number c.requires.part.number c.sides-sides.result.now c.sides-sides.ensures
 
+pub most_inputs-requires : goal.most_inputs-requires
+most_inputs-requires g c =
+    part_below (net_of g.P.Primitive.behaviour c.args.part.now.planning.now.circuit.now) c.known.ensures.wired c.args.part.now.planning.now.knots.now c.requires.part.planning.knots c.args.part.now.number c.requires.part.number c.sides-sides.result.now c.sides-sides.ensures
+
 pub rows_at-requires : goal.rows_at-requires
 rows_at-requires g c = λ m lt. subst (λ (n : ℕ). get_or c.sides-sides.result.now m 0 < n) (sym c.requires.one_row)
     (part_below (net_of g.P.Primitive.behaviour c.args.part.now.planning.now.circuit.now) c.known.ensures.wired c.args.part.now.planning.now.knots.now c.requires.part.planning.knots c.args.part.now.number c.requires.part.number c.sides-sides.result.now c.sides-sides.ensures m lt)

@@ -1,8 +1,8 @@
 use Rattle.std.proofs.Common.{◌≡◌, ◌∙◌, inl, inr, ℕ, ◌+◌, ◌<◌, Bool, false, List, sym, ap, subst, arith, length, get_or, set, get_or-set_other, ◌≢◌}
+use Rattle.std.proofs.lemmas.Bool.{cases_eq}
 use Rattle.std.proofs.lemmas.List.{length-map}
 use Rattle.reo_net_base.specs.Behaviour.{Behaviour}
 use Rattle.reo_net_base.specs.Net.{Net, net_of, all_sides, behaviour_at, first_side}
-use Rattle.reo_net_circuit.proofs.Cases.{eq_cases}
 use Rattle.reo_net_laws.proofs.Sides.{side_in}
 use Rattle.reo_net_laws.specs.Knots.{Knotted}
 use Rattle.reo_planning.specs.Unsettling.{part_at}
@@ -20,7 +20,7 @@ side_below net primitive side first sides lt below same is =
 unsettled_more : (net : Net) (knots : Knotted) (primitive n part : ℕ) (flags : List Bool) → part ≡ part_at net knots primitive n → part < length flags
     → ((side : ℕ) → side < n → get_or flags (part_at net knots primitive side) false ≡ false)
     → (side : ℕ) → side < n + 1 → get_or (set flags part false) (part_at net knots primitive side) false ≡ false
-unsettled_more net knots primitive n part flags is lt gone side below = elim (eq_cases side n) [
+unsettled_more net knots primitive n part flags is lt gone side below = elim (cases_eq side n) [
   | inl e ↦ subst (λ (k : ℕ). get_or (set flags part false) k false ≡ false) (is ∙ ap (part_at net knots primitive) (sym e)) (cleared_here flags part lt)
   | inr ne ↦ clear_still flags part (part_at net knots primitive side) (gone side (omega arith))
 ]

@@ -1,6 +1,6 @@
 -- It is brought up to its clock, and marked anew.
 use Rattle.std.proofs.Common.{◌≡◌, ◌∙◌, ◌<◌, ◌≤◌, ◌-◌, ◌||◌, ℕ, length, false, true≢false, refl, sym, ap, subst, arith}
-use Rattle.reo_values.proofs.Truths.{either_false}
+use Rattle.std.proofs.lemmas.Bool.{or_parts}
 use Rattle.reo_players.specs.declared.marks.Pace.{Pace}
 use Rattle.reo_players.specs.Players.{Player, counts, after, step_of}
 use Rattle.reo_players.specs.Pacing.{clock_at, due_of, later, shown}
@@ -63,9 +63,9 @@ put_due-requires-clause-same c = λ without.
       | then-before w ↦ absurd (true≢false (sym w.if-before.true ∙ sym w.counts-is ∙ without))
       | else-before w ↦ ap (λ b. b || c.of-mark.result.counting) w.if-before.false ∙ sym w.counts-is ∙ without
     ] in
-    let before : counts x.player ≡ false = ap (λ (m : Pace). m.counting) (sym c.of-before.ensures) ∙ either_false c.of-before.result.counting c.of-mark.result.counting neither in
+    let before : counts x.player ≡ false = ap (λ (m : Pace). m.counting) (sym c.of-before.ensures) ∙ (or_parts c.of-before.result.counting c.of-mark.result.counting neither).0 in
     let now : counts y.player ≡ false =
-    ap (λ (m : Pace). m.counting) (sym c.of-mark.ensures) ∙ (sym (ap (λ b. b || c.of-mark.result.counting) (either_false c.of-before.result.counting c.of-mark.result.counting neither)) ∙ neither) in
+    ap (λ (m : Pace). m.counting) (sym c.of-mark.ensures) ∙ (sym (ap (λ b. b || c.of-mark.result.counting) ((or_parts c.of-before.result.counting c.of-mark.result.counting neither).0)) ∙ neither) in
     due_at p.clock p.passed p.players p.marks p.dues are i x lt c.at_mut-paced.ensures.value ∙ uncounted_due x before ∙ sym (uncounted_due y now)
 
 pub advance-step-requires : goal.advance-step-requires

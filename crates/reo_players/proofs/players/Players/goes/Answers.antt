@@ -1,9 +1,10 @@
 -- What its mark and its due round tell.
 use Rattle.std.proofs.Common.{◌≡◌, ◌≢◌, ◌∙◌, ◌||◌, ◌<◌, ◌+◌, ◌-◌, ◌^◌, ℕ, min, length, true, false, get_or, sym, ap, arith}
+use Rattle.std.proofs.Math.Bool.{or-true}
+use Rattle.std.proofs.lemmas.Bool.{not-false}
 use Rattle.std.specs.Prelude.{nat_eq}
 use Rattle.std.proofs.lemmas.Bool.Decides.{nat_tests}
 use Rattle.std.proofs.lemmas.List.{get_or_default}
-use Rattle.reo_values.proofs.Truths.{not_false, or_true}
 use Rattle.reo_players.specs.declared.pacing.Paced.{Paced}
 use Rattle.reo_players.specs.Players.{Player, no_player, player_of, counts}
 use Rattle.reo_players.specs.Idle.{is_awake, is_last}
@@ -103,7 +104,7 @@ returns-then-due-clause-here c = λ is.
     let not_same : c.at-due.result ≢ 18446744073709551615 = c.if-due.true in
     let ever : due_of x < 2 ^ 64 - 1 = omega (arith, due, fits, not_same) in
     let same : counts q ≡ counts x.player = ap counts (player_at p.clock p.passed p.players p.marks p.dues are i x lt x_is) ∙ later_counts (clock - x.as_of) x.player in
-    rw (← c.self.view_is) (ap (λ b. is_awake q || b) (same ∙ due_counts x ever) ∙ or_true (is_awake q))
+    rw (← c.self.view_is) (ap (λ b. is_awake q || b) (same ∙ due_counts x ever) ∙ or-true (is_awake q))
 
 pub returns-else-due-clause-last : goal.returns-else-due-clause-last
 returns-else-due-clause-last c = λ is.
@@ -116,7 +117,7 @@ returns-else-due-clause-last c = λ is.
     let x_is : x ≡ get_or p.players i x = get_or_default p.players i first x lt in
     let clock : ℕ = clock_at p.clock p.passed i in
     let asleep : is_awake x.player ≡ false = sym (was_awake p.clock p.passed p.players p.marks p.dues are i x lt x_is) ∙ sym c.at.ensures ∙ c.if-at.false in
-    let eq : nat_eq c.at-due.result 18446744073709551615 ≡ true = not_false (nat_eq c.at-due.result 18446744073709551615) is in
+    let eq : nat_eq c.at-due.result 18446744073709551615 ≡ true = not-false (nat_eq c.at-due.result 18446744073709551615) is in
     let never : c.at-due.result ≡ 18446744073709551615 = grind (arith, nat_tests) in
     rw (← c.self.view_is)
     (ap is_last (player_at p.clock p.passed p.players p.marks p.dues are i x lt x_is) ∙ never_last x clock asleep (sym (c.at-due.ensures ∙ due_at p.clock p.passed p.players p.marks p.dues are i x lt x_is) ∙ never))

@@ -1,7 +1,7 @@
 -- It is as if no round had seen its present action, and never due.
 use Rattle.std.proofs.Common.{◌≡◌, ◌∙◌, ◌<◌, ◌-◌, length, true, false, refl, sym, ap, arith}
+use Rattle.std.proofs.Math.Bool.{and-false}
 use Rattle.std.specs.Prelude.{nat_eq}
-use Rattle.reo_values.proofs.Truths.{and_false}
 use Rattle.reo_players.specs.declared.pacing.Paced.{Paced}
 use Rattle.reo_players.specs.Players.{Player, counts}
 use Rattle.reo_players.specs.Idle.{waits}
@@ -68,7 +68,7 @@ returns c =
     let x = c.at_mut-paced.result.now in
     let q : Player = c.rouse.new.self in
     let y : Paced = record { player = q; as_of = x.as_of } in
-    let still : waits q ≡ false = ap waits c.rouse.ensures ∙ and_false (counts x.player) in
+    let still : waits q ≡ false = ap waits c.rouse.ensures ∙ and-false (counts x.player) in
     rw (← c.self.view_is)
     (roused p.clock p.passed p.players p.marks p.dues are i x lt c.at_mut-paced.ensures.value p.passed (λ j ne. refl) y q
     (not_waiting (clock_at p.clock p.passed i - x.as_of) q still)

@@ -1,7 +1,7 @@
 use Rattle.std.proofs.Common.{◌≡◌, Bool, true, false, cond, [], subst}
 use Rattle.reo_net_base.specs.Net.{Net, net_of}
 use Rattle.reo_refute_base.specs.Places.{IsAllowed}
-use Rattle.reo_refute_live.specs.Open.{open_in, IsClosed}
+use Rattle.reo_refute_live.specs.OpenBranch.{open_in, IsClosed}
 use Rattle.reo_refute.proofs.check.Taking.{Leads, leads_none, leads_more, branch_read, part_stops}
 use Rattle.reo_refute.proofs.check.part.check_part.Goals as goal
 

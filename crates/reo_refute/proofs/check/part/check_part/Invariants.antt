@@ -2,7 +2,7 @@ use Rattle.std.proofs.Common.{◌≡◌, false, cond, length, []}
 use Rattle.std.specs.Prelude.{IsTrue}
 use Rattle.reo_net_base.specs.Net.{net_of}
 use Rattle.reo_refute_base.specs.Places.{IsAllowed}
-use Rattle.reo_refute_live.specs.Open.{open_in, IsOpen, IsClosed}
+use Rattle.reo_refute_live.specs.OpenBranch.{open_in, IsOpen, IsClosed}
 use Rattle.reo_refute.proofs.check.Taking.{Leads}
 use Rattle.reo_refute.proofs.check.part.check_part.Given as goal
 

@@ -1,6 +1,6 @@
 use Rattle.reo_net_base.specs.Net.{net_of}
 use Rattle.reo_refute_parts.specs.places.AllowedRows.{AreAgreeing}
-use Rattle.reo_refute_live.specs.Open.{IsClosed}
+use Rattle.reo_refute_live.specs.OpenBranch.{IsClosed}
 use Rattle.reo_refute.specs.check.Judging.{ArePassed}
 use Rattle.reo_refute.proofs.check.parts.check_parts.Given as goal
 

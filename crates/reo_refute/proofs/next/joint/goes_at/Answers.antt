@@ -1,6 +1,6 @@
 use Rattle.std.proofs.Common.{◌≡◌, ◌<◌, inl, inr, ℕ, length, get_or, true, subst, sym, arith}
+use Rattle.std.proofs.lemmas.Bool.{cases_eq}
 use Rattle.reo_net_base.specs.Net.{Net, net_of}
-use Rattle.reo_net_circuit.proofs.Cases.{eq_cases}
 use Rattle.reo_joint_values.specs.declared.value.JointValue.{JointValue}
 use Rattle.reo_joint_values.specs.declared.value.JointValue.TheVariants.{Jam}
 use Rattle.reo_joint_values.specs.Values.{Family}
@@ -25,7 +25,7 @@ loop-place-preserved g c =
     let f : Family = family_of c.args.live.now.table in
     let Stays : JointValue → Type 0 = λ v. f c.args.joint v ≡ true → HasSupport net (numbered c.args.judged.now.lists.now) (IsAllowed net c.args.judged.now.turn c.args.judged.now.given.now c.args.judged.now.number) f c.args.side c.args.joint v in
     let here : Stays (get_or (values_of c.args.judged.now.lists.now c.args.joint) c.loop-place.place Jam) = subst Stays c.value_at-value.ensures (c.in_ok-may_go.ensures.stays c.if-branch.false) in
-    λ k le lt. elim (eq_cases k c.loop-place.place) [
+    λ k le lt. elim (cases_eq k c.loop-place.place) [
       | inl e ↦ subst (λ (n : ℕ). Stays (get_or (values_of c.args.judged.now.lists.now c.args.joint) n Jam)) (sym e) here
       | inr ne ↦ c.loop-place.invariant k le (omega (arith, lt, ne))
     ]

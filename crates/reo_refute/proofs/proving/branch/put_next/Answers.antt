@@ -3,7 +3,7 @@ use Rattle.reo_net_base.specs.Net.{Net, net_of}
 use Rattle.reo_net_base.specs.Sides.{side_count}
 use Rattle.reo_refute_base.specs.Places.{IsAllowed}
 use Rattle.reo_refute_base.specs.Texts.{IsNumbered}
-use Rattle.reo_refute_live.specs.Open.{open_in}
+use Rattle.reo_refute_live.specs.OpenBranch.{open_in}
 use Rattle.reo_refute_live.specs.support.Families.{family_of}
 use Rattle.reo_refute.specs.next.Next.{LeadsOn, IsSettled}
 use Rattle.reo_refute.proofs.proving.Numbers.{part_of, line_numbered}

@@ -2,7 +2,7 @@ use Rattle.std.proofs.Common.{◌≡◌, ◌<◌, ℕ, List, true, false, Bool, 
 use Rattle.reo_net_base.specs.Net.{Net, net_of}
 use Rattle.reo_refute_base.specs.Places.{IsAllowed}
 use Rattle.reo_refute_base.specs.measure.Owed.{owed}
-use Rattle.reo_refute_live.specs.Open.{open_in, IsClosed}
+use Rattle.reo_refute_live.specs.OpenBranch.{open_in, IsClosed}
 use Rattle.reo_refute.proofs.proving.Writing.{Leads, leads_none, leads_more, branch_made}
 use Rattle.reo_refute.proofs.proving.branch.put_whole.Goals as goal
 

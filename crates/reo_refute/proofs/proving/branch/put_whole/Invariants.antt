@@ -3,7 +3,7 @@ use Rattle.std.specs.Prelude.{IsTrue}
 use Rattle.reo_net_base.specs.Net.{net_of}
 use Rattle.reo_refute_base.specs.Places.{IsAllowed}
 use Rattle.reo_refute_base.specs.measure.Owed.{owed}
-use Rattle.reo_refute_live.specs.Open.{open_in, IsOpen, IsClosed}
+use Rattle.reo_refute_live.specs.OpenBranch.{open_in, IsOpen, IsClosed}
 use Rattle.reo_refute.proofs.proving.Writing.{Leads}
 use Rattle.reo_refute.proofs.proving.branch.put_whole.Given as goal
 

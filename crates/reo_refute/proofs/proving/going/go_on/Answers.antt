@@ -3,7 +3,7 @@ use Rattle.reo_net_base.specs.Net.{Net, net_of}
 use Rattle.reo_refute_base.specs.declared.line.LogLine.{LogLine}
 use Rattle.reo_refute_base.specs.declared.line.LogLine.TheVariants.{Drop, Empty, Split}
 use Rattle.reo_refute_base.specs.Places.{IsAllowed}
-use Rattle.reo_refute_live.specs.Open.{open_in}
+use Rattle.reo_refute_live.specs.OpenBranch.{open_in}
 use Rattle.reo_refute_live.specs.support.Families.{family_of}
 use Rattle.reo_refute.specs.next.Next.{LeadsOn}
 use Rattle.reo_refute.specs.proving.Making.{LeadsTo}

@@ -4,7 +4,7 @@ use Rattle.reo_net_base.specs.First.{positions}
 use Rattle.reo_refute_base.specs.Items.{Lists, AreItemLists}
 use Rattle.reo_refute_base.specs.Wide.{IsWide}
 use Rattle.reo_refute_parts.specs.places.KeyPlaces.{position_of}
-use Rattle.reo_refute_live.specs.Open.{AreSmall}
+use Rattle.reo_refute_live.specs.OpenBranch.{AreSmall}
 use Rattle.reo_refute.proofs.check.Judged.{lists_length, lists_small}
 use Rattle.reo_refute.specs.proving.Making.{AreFew, ArePartsMade}
 use Rattle.reo_refute.proofs.proving.FewItems.{lists_few}

@@ -1,5 +1,5 @@
 use Rattle.reo_net_base.specs.Net.{net_of}
-use Rattle.reo_refute_live.specs.Open.{IsClosed}
+use Rattle.reo_refute_live.specs.OpenBranch.{IsClosed}
 use Rattle.reo_refute_parts.specs.places.AllowedRows.{AreAgreeing}
 use Rattle.reo_refute.specs.proving.Making.{ArePartsMade}
 use Rattle.reo_refute.proofs.proving.parts.put_parts.Given as goal

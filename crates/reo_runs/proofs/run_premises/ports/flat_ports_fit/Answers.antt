@@ -12,7 +12,7 @@ use Rattle.reo_flat.specs.Unfolding.{Placed, meaning_named, meanings_of}
 use Rattle.reo_flat.specs.Flat.{main_parameters, ports_of, port_kind, port_placed, placed_of, nodes_of, own_kinds, primitives_of}
 use Rattle.reo_flat.specs.flatten_laws.NodeTypes.{typing_named, typings_of, node_types_of}
 use Rattle.reo_flat.proofs.flatten_laws.Breaks.{unbroken}
-use Rattle.reo_flat.proofs.flatten_laws.Each.{both, by_recursion, each_of}
+use Rattle.reo_runs.proofs.Each.{both, by_recursion, each_of}
 use Rattle.reo_runs.specs.run_premises.PortsOf.{HasPorts, AreFree}
 use Rattle.reo_runs.proofs.run_premises.NoPorts.{IsNoPort, of_nodes}
 use Rattle.reo_runs.proofs.run_premises.Channels.{of_meaning}

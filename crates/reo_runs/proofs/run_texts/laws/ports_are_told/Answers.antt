@@ -7,7 +7,7 @@ use Rattle.reo_rules.specs.Types.{Typed, types_of}
 use Rattle.reo_flat.specs.Flat.{main_parameters, ports_of}
 use Rattle.reo_flat.specs.flatten_laws.NodeTypes.{typing_named, typings_of, node_types_of}
 use Rattle.reo_flat.proofs.flatten_laws.Breaks.{unbroken}
-use Rattle.reo_flat.proofs.flatten_laws.Each.{by_recursion, each_of}
+use Rattle.reo_runs.proofs.Each.{by_recursion, each_of}
 use Rattle.reo_runs.proofs.run_texts.Told.{main_spelled, port_names, port_types}
 use Rattle.reo_runs.proofs.run_texts.laws.ports_are_told.Goals as goal
 

@@ -9,7 +9,7 @@ use Rattle.reo_flat.specs.Unfolding.{meaning_named, meanings_of}
 use Rattle.reo_flat.specs.Flat.{main_parameters, ports_of, nodes_of, placed_of, wiring_of_program}
 use Rattle.reo_flat.specs.flatten_laws.NodeTypes.{typing_named, typings_of, node_types_of}
 use Rattle.reo_flat.proofs.flatten_laws.Breaks.{unbroken}
-use Rattle.reo_flat.proofs.flatten_laws.Each.{by_recursion}
+use Rattle.reo_runs.proofs.Each.{by_recursion}
 use Rattle.reo_flat.proofs.flatten_laws.Once.{Once}
 use Rattle.reo_flat.proofs.flatten_laws.TwoEnds.{once_of}
 use Rattle.reo_flat.proofs.flatten_laws.TypedNodes.{FitsAt}

@@ -7,7 +7,7 @@ use Rattle.reo_search.specs.choices.Remaining.{choices_of}
 use Rattle.reo_propagate.specs.declared.state.State.{State}
 use Rattle.reo_search.specs.choices.Trying.{MayRestartOn, HasCodes, HasNextOf, CoverWith}
 use Rattle.reo_search.specs.choices.Best.{IsBetter}
-use Rattle.reo_search.specs.choices.Searched.{IsFront, inside_of, names_in}
+use Rattle.reo_search.specs.choices.KnotSearch.{IsFront, inside_of, names_in}
 use Rattle.reo_search.proofs.choices.Counted.{steps_more}
 use Rattle.reo_search.proofs.choices.Bettering.{better_same, better_of_two}
 use Rattle.reo_search.proofs.choices.Tried.{next_left, next_right, next_cases, next_all, cover_more}

@@ -3,7 +3,7 @@ use Rattle.reo_net_base.specs.Net.{net_of}
 use Rattle.reo_search.specs.choices.Remaining.{choices_of}
 use Rattle.reo_search.specs.choices.Trying.{MayRestartOn, HasNextOf}
 use Rattle.reo_search.specs.choices.Best.{IsBetter}
-use Rattle.reo_search.specs.choices.Searched.{inside_of, names_in}
+use Rattle.reo_search.specs.choices.KnotSearch.{inside_of, names_in}
 use Rattle.reo_search.proofs.choices.choices.+improve.Given as goal
 
 abbrev pub decreases-improve : goal.decreases-improve

@@ -3,7 +3,7 @@ use Rattle.reo_net_base.specs.Net.{Net, net_of}
 use Rattle.reo_joint_values.specs.Values.{Names}
 use Rattle.reo_search.specs.choices.Trying.{HasCodes}
 use Rattle.reo_search.specs.choices.Best.{IsBetter}
-use Rattle.reo_search.specs.choices.Searched.{inside_of, names_in}
+use Rattle.reo_search.specs.choices.KnotSearch.{inside_of, names_in}
 use Rattle.reo_search.proofs.choices.Matched.{first_all, first_none}
 use Rattle.reo_search.proofs.choices.choices.first_over.Goals as goal
 

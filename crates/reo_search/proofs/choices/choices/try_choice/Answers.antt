@@ -1,7 +1,7 @@
 use Rattle.std.proofs.Common.{ℕ, Bool}
 use Rattle.reo_net_base.specs.Net.{Net, net_of}
 use Rattle.reo_joint_values.specs.Values.{Names}
-use Rattle.reo_search.specs.choices.Searched.{inside_of, names_in}
+use Rattle.reo_search.specs.choices.KnotSearch.{inside_of, names_in}
 use Rattle.reo_search.proofs.choices.Matched.{one_alone, none_with, first_with}
 use Rattle.reo_search.proofs.choices.choices.try_choice.Goals as goal
 

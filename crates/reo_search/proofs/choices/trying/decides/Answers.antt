@@ -4,7 +4,7 @@ use Rattle.reo_joint_values.specs.Values.{Names}
 use Rattle.reo_joint_values.specs.Chosen.{IsChosen}
 use Rattle.reo_rows.specs.Sets.{family_of}
 use Rattle.reo_walk.proofs.Settling.{walked_first}
-use Rattle.reo_search.specs.choices.Searched.{inside_of, names_in}
+use Rattle.reo_search.specs.choices.KnotSearch.{inside_of, names_in}
 use Rattle.reo_search.proofs.choices.Remains.{one_at_loops}
 use Rattle.reo_search.proofs.choices.Bettering.{none_behind, better_kept}
 use Rattle.reo_search.proofs.choices.Matched.{least_of}

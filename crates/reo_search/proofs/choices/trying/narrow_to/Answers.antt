@@ -1,7 +1,7 @@
 use Rattle.std.proofs.Common.{◌≡◌, ℕ, Bool, length, take, arith}
 use Rattle.std.proofs.lemmas.List.{length-take-le, get_or-take}
 use Rattle.reo_net_base.specs.Net.{Net, net_of}
-use Rattle.reo_search.specs.choices.Searched.{inside_of}
+use Rattle.reo_search.specs.choices.KnotSearch.{inside_of}
 use Rattle.reo_search.proofs.choices.Matched.{left_with}
 use Rattle.reo_search.proofs.choices.trying.narrow_to.Goals as goal
 

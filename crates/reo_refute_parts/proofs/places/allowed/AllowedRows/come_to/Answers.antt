@@ -4,7 +4,7 @@ use Rattle.std.proofs.lemmas.List.{get_or_default}
 use Rattle.reo_net_base.specs.Net.{Net, net_of}
 use Rattle.reo_net_base.specs.Sides.{side_count}
 use Rattle.reo_refute_base.specs.Places.{IsAllowed}
-use Rattle.reo_refute_parts.specs.declared.places.place.KeyPlace.{KeyPlace}
+use Rattle.reo_refute_parts.specs.declared.places.place.SidePlace.{SidePlace}
 use Rattle.reo_refute_parts.specs.places.AllowedRows.{AreBytes, Agrees}
 use Rattle.reo_refute_parts.proofs.places.AllowedLemmas.{number, place_in, same_side, allowed_bytes, live_is}
 use Rattle.reo_refute_parts.proofs.places.allowed.AllowedRows.come_to.Goals as goal
@@ -22,7 +22,7 @@ returns-clause-live g c =
     let net : Net = net_of g.P.Primitive.behaviour c.args.circuit.now in
     let given : List ℕ = c.args.given.now in
     let p : ℕ = c.args.number in
-    let place : KeyPlace = c.args.place in
+    let place : SidePlace = c.args.place in
     let is = c.requires.place in
     let side_lt : place.side < side_count net = place_in net c.args.turn given p place is in
     let wanted : ℕ = c.number_of-wanted.result in
@@ -44,7 +44,7 @@ returns-clause-allowed g c =
     let net : Net = net_of g.P.Primitive.behaviour c.args.circuit.now in
     let given : List ℕ = c.args.given.now in
     let p : ℕ = c.args.number in
-    let place : KeyPlace = c.args.place in
+    let place : SidePlace = c.args.place in
     let is = c.requires.place in
     let side_lt : place.side < side_count net = place_in net c.args.turn given p place is in
     let wanted : ℕ = c.number_of-wanted.result in

@@ -2,7 +2,7 @@ use Rattle.std.proofs.Common.{◌≡◌, ◌≢◌, ◌∙◌, ℕ, ◌<◌, Lis
 use Rattle.std.proofs.lemmas.List.{get_or_default}
 use Rattle.reo_net_base.specs.Net.{Net, net_of}
 use Rattle.reo_net_base.specs.Sides.{side_count}
-use Rattle.reo_refute_parts.specs.declared.places.place.KeyPlace.{KeyPlace}
+use Rattle.reo_refute_parts.specs.declared.places.place.SidePlace.{SidePlace}
 use Rattle.reo_refute_parts.specs.places.AllowedRows.{AreMarked}
 use Rattle.reo_refute_parts.proofs.places.AllowedLemmas.{number, place_in, passed}
 use Rattle.reo_refute_parts.proofs.places.allowed.AllowedRows.pass.Goals as goal
@@ -20,7 +20,7 @@ returns g c =
     let net : Net = net_of g.P.Primitive.behaviour c.args.circuit.now in
     let given : List ℕ = c.args.given.now in
     let p : ℕ = c.args.number in
-    let place : KeyPlace = c.args.place in
+    let place : SidePlace = c.args.place in
     let is = c.requires.place in
     let side_lt : place.side < side_count net = place_in net c.args.turn given p place is in
     let wanted : ℕ = c.number_of-wanted.result in

@@ -8,20 +8,20 @@ use Rattle.reo_rows.specs.Sets.{names_of}
 use Rattle.reo_propagate.specs.Queues.{among}
 use Rattle.reo_walk.specs.declared.place.KeyPlace.{KeyPlace}
 use Rattle.reo_walk.specs.Places.{side_of_place}
-use Rattle.reo_search.specs.declared.choices.searched.Searched.{Searched}
+use Rattle.reo_search.specs.declared.choices.knot_search.KnotSearch.{KnotSearch}
 use Rattle.reo_search.specs.choices.Remaining.{AreLoopsIn, IsLeftOfAll, CoverAll}
 use Rattle.reo_search.specs.choices.Trying.{CoverWith}
 
 -- Whether a side is one of its sides.
-abbrev pub inside_of : {P : Type 0} → Searched P → ℕ → Bool
+abbrev pub inside_of : {P : Type 0} → KnotSearch P → ℕ → Bool
 inside_of searched = among searched.sides.now
 
 -- The items that the numbers at its joints stand for.
-abbrev pub names_in : {P : Type 0} → Searched P → Names
+abbrev pub names_in : {P : Type 0} → KnotSearch P → Names
 names_in searched = names_of searched.basis.now.items.now
 
 -- It can be searched: its sides are a knot, and it has places there and the loop joints.
-pub record IsSearched {P : Type 0} (net : Net) (searched : Searched P) : Type 0 where
+pub record IsSearched {P : Type 0} (net : Net) (searched : KnotSearch P) : Type 0 where
   pub knot : IsKnot net (inside_of searched)
   pub sides_are : (s : ℕ) → inside_of searched s ≡ true → s < side_count net
   pub some_side : 0 < length searched.sides.now
@@ -31,7 +31,7 @@ pub record IsSearched {P : Type 0} (net : Net) (searched : Searched P) : Type 0 
 
 -- What is left of all values, and a list of it for each loop joint, which has the value there of
 -- each assignment.
-pub record IsLeftIn {P : Type 0} (net : Net) (searched : Searched P) (alive : List (List Bool))
+pub record IsLeftIn {P : Type 0} (net : Net) (searched : KnotSearch P) (alive : List (List Bool))
     (left : List (List ℕ)) : Type 0 where
   pub of_all : IsLeftOfAll net (names_in searched) (inside_of searched) alive
   pub one_each : length left ≡ length searched.loops.now
@@ -39,7 +39,7 @@ pub record IsLeftIn {P : Type 0} (net : Net) (searched : Searched P) (alive : Li
 
 -- A front: values at the first loop joints, and a list for each loop joint, which has the value
 -- there of each assignment with those values.
-pub record IsFront {P : Type 0} (net : Net) (searched : Searched P) (codes : List ℕ)
+pub record IsFront {P : Type 0} (net : Net) (searched : KnotSearch P) (codes : List ℕ)
     (left : List (List ℕ)) : Type 0 where
   pub within : length codes ≤ length searched.loops.now
   pub one_each : length left ≡ length searched.loops.now

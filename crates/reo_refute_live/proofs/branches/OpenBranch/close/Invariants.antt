@@ -2,8 +2,8 @@ use Rattle.std.proofs.Common.{◌≡◌, length}
 use Rattle.std.specs.List.{All}
 use Rattle.reo_refute_live.specs.support.Families.{family_of}
 use Rattle.reo_refute_live.specs.Trail.{AreKept}
-use Rattle.reo_refute_live.specs.Open.{still_open, IsSplit, AreNested}
-use Rattle.reo_refute_live.proofs.branches.Open.close.Given as goal
+use Rattle.reo_refute_live.specs.OpenBranch.{still_open, IsSplit, AreNested}
+use Rattle.reo_refute_live.proofs.branches.OpenBranch.close.Given as goal
 
 -- Nothing is to come of the splits that went.
 abbrev pub invariant-loop-split : goal.invariant-loop-split

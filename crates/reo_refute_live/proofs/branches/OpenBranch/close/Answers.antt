@@ -5,10 +5,10 @@ use Rattle.reo_refute_base.specs.Live.{live_at}
 use Rattle.reo_refute_live.specs.support.Families.{family_of}
 use Rattle.reo_refute_live.specs.declared.branches.Split.{Split}
 use Rattle.reo_refute_live.specs.declared.trail.Gone.{Gone}
-use Rattle.reo_refute_live.specs.Open.{all_to_come, IsSplit, AreNested}
+use Rattle.reo_refute_live.specs.OpenBranch.{all_to_come, IsSplit, AreNested}
 use Rattle.reo_refute_live.proofs.OpenLemmas.{open_last, none_to_come, next_open, split_after, split_before, splits_after, splits_before, nested_front, nested_last, nested_more}
 use Rattle.reo_refute_live.proofs.TrailLemmas.{all_front, all_last, all_more, none_since}
-use Rattle.reo_refute_live.proofs.branches.Open.close.Goals as goal
+use Rattle.reo_refute_live.proofs.branches.OpenBranch.close.Goals as goal
 
 pub hold-requires-clause-values : goal.hold-requires-clause-values
 hold-requires-clause-values c =

@@ -1,6 +1,6 @@
 use Rattle.reo_refute_live.specs.support.Families.{family_of}
 use Rattle.reo_refute_live.proofs.OpenLemmas.{same_open, splits_after, all_since}
-use Rattle.reo_refute_live.proofs.branches.Open.clear.Goals as goal
+use Rattle.reo_refute_live.proofs.branches.OpenBranch.clear.Goals as goal
 
 pub returns-clause-open : goal.returns-clause-open
 returns-clause-open c =

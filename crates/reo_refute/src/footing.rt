@@ -2,7 +2,7 @@
 use reo_net_base::Primitive;
 use reo_net_circuit::Circuit;
 use reo_refute_live::{Column, Judged};
-use reo_refute_parts::{AllowedRows, KeyPlace};
+use reo_refute_parts::{AllowedRows, SidePlace};
 use reo_values::{List, Value};
 use std::alloc::Global;
 
@@ -10,12 +10,12 @@ use std::alloc::Global;
 /// of the key, the items that can stand at each joint, and the tables of the sides. Nothing of it
 /// changes within the log.
 #[derive(Drop)]
-pub(crate) struct Round<'a, P: Primitive> {
+pub(crate) struct Footing<'a, P: Primitive> {
     pub(crate) alloc: Global,
     pub(crate) circuit: &'a Circuit<P>,
     pub(crate) turn: u64,
     pub(crate) given: &'a [u32],
-    pub(crate) places: &'a [KeyPlace],
+    pub(crate) places: &'a [SidePlace],
     pub(crate) lists: &'a [List<Value>],
     pub(crate) tables: &'a List<List<Column>>,
 }

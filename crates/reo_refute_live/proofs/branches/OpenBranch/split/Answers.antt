@@ -5,10 +5,10 @@ use Rattle.reo_joint_values.specs.Values.{Family}
 use Rattle.reo_refute_base.specs.Live.{alone, live_at}
 use Rattle.reo_refute_live.specs.support.Families.{family_of}
 use Rattle.reo_refute_live.specs.declared.branches.Split.{Split}
-use Rattle.reo_refute_live.specs.Open.{all_to_come, IsSplit, AreNested}
+use Rattle.reo_refute_live.specs.OpenBranch.{all_to_come, IsSplit, AreNested}
 use Rattle.reo_refute_live.proofs.OpenLemmas.{split_open, split_after, splits_after, all_since, nested_more, some_first}
 use Rattle.reo_refute_live.proofs.TrailLemmas.{all_more, none_since}
-use Rattle.reo_refute_live.proofs.branches.Open.split.Goals as goal
+use Rattle.reo_refute_live.proofs.branches.OpenBranch.split.Goals as goal
 
 pub returns-clause-open : goal.returns-clause-open
 returns-clause-open c =

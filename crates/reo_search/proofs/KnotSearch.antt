@@ -2,9 +2,8 @@
 use Rattle.std.proofs.Common.{◌≡◌, inl, inr, ◌↔◌, ℕ, ◌+◌, ◌-◌, ◌<◌, ◌≤◌, IsTrue, Bool, true, false, List, [], ◌∷◌, length, get_or, drop, ap, sym, ◌∙◌, subst, arith}
 use Rattle.std.specs.Prelude.{nat_lt}
 use Rattle.std.specs.Bool.{◌==◌}
-use Rattle.std.proofs.lemmas.Bool.{and_parts, and_from, cases_Bool}
+use Rattle.std.proofs.lemmas.Bool.{and_parts, and_from, cases_Bool, eqb-true, lt-ltb, eq-eqb}
 use Rattle.std.proofs.lemmas.List.{get_or_default, get_or-drop, get_or-map}
-use Rattle.reo_values.proofs.Naturals.{eq_same, lt_true, same_eq}
 use Rattle.reo_net_base.specs.declared.joint.Joint.{Joint}
 use Rattle.reo_net_base.specs.Wired.{NoCycle, IsWired, IsOrder}
 use Rattle.reo_net_base.specs.Net.{Net, row_count, no_side, from_sides, to_sides, side_at}
@@ -46,8 +45,8 @@ module _ (net : Net) (wired : IsWired net) (knots : Knotted) (knot : ℕ) (are :
   inside_of j j_lt number =
       let under = side_in_range net wired _ (wired.givers j no_joint j_lt) in
       and_from (nat_lt (giver_side net j) (length knots.numbers)) (get_or knots.numbers (giver_side net j) 0 == knot)
-      (lt_true (giver_side net j) (length knots.numbers) (omega (arith, under, are.numbered.one_each)))
-      (same_eq (get_or knots.numbers (giver_side net j) 0) knot number)
+      (lt-ltb (giver_side net j) (length knots.numbers) (omega (arith, under, are.numbered.one_each)))
+      (eq-eqb (get_or knots.numbers (giver_side net j) 0) knot number)
 
   loop_in : (j : ℕ) → IsLoopOf net knots.numbers knot j → IsJointIn net (in_knot knots.numbers knot) j × IsLoop net j
   loop_in j loop = ((loop.in_range, inside_of j loop.in_range (loop.here no_joint)), loop.closes)
@@ -55,7 +54,7 @@ module _ (net : Net) (wired : IsWired net) (knots : Knotted) (knot : ℕ) (are :
   in_loop : (j : ℕ) → IsJointIn net (in_knot knots.numbers knot) j × IsLoop net j → IsLoopOf net knots.numbers knot j
   in_loop j h =
       let j_lt = h.0.0 in
-      let number = eq_same (get_or knots.numbers (giver_side net j) 0) knot (and_parts (nat_lt (giver_side net j) (length knots.numbers)) (get_or knots.numbers (giver_side net j) 0 == knot) h.0.1).1 in
+      let number = eqb-true (get_or knots.numbers (giver_side net j) 0) knot (and_parts (nat_lt (giver_side net j) (length knots.numbers)) (get_or knots.numbers (giver_side net j) 0 == knot) h.0.1).1 in
       record {
         in_range = j_lt;
         closes = h.1;
@@ -167,7 +166,7 @@ module _ (net : Net) (wired : IsWired net) (inside : ℕ → Bool) (knot : IsKno
         let side : ℕ = get_or part.sides m 0 in
         let row : ℕ = get_or rows.rows side 0 in
         subst (λ (r : ℕ). IsJamRow net side r ↔ (jams net rows.rows side ≡ true)) (sym (row_at m lt))
-        (λ h. same_eq (row + 1) (row_count (side_in net side)) h, λ h. eq_same (row + 1) (row_count (side_in net side)) h)
+        (λ h. eq-eqb (row + 1) (row_count (side_in net side)) h, λ h. eqb-true (row + 1) (row_count (side_in net side)) h)
 
     some : 0 < length part.sides
     some =

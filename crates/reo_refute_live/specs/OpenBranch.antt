@@ -6,7 +6,7 @@ use Rattle.reo_refute_base.specs.Items.{Lists, items_at}
 use Rattle.reo_refute_base.specs.Live.{alone, live_at}
 use Rattle.reo_refute_live.specs.support.Families.{family_of}
 use Rattle.reo_refute_live.specs.declared.branches.Split.{Split}
-use Rattle.reo_refute_live.specs.declared.branches.Open.{Open}
+use Rattle.reo_refute_live.specs.declared.branches.OpenBranch.{OpenBranch}
 use Rattle.reo_refute_live.specs.declared.trail.Gone.{Gone}
 use Rattle.reo_refute_live.specs.Trail.{revived, AreKept}
 
@@ -25,11 +25,11 @@ all_to_come live gone [] = []
 all_to_come live gone (split ∷ splits) = all_to_come live gone splits ++ to_come live gone split
 
 -- What will be live in the branches behind the present one, the next first.
-abbrev pub still_open : Open → List Family
+abbrev pub still_open : OpenBranch → List Family
 still_open live = all_to_come (family_of live.table) live.gone live.splits
 
 -- What is live in the open branches, the present one first.
-abbrev pub open_in : Open → List Family
+abbrev pub open_in : OpenBranch → List Family
 open_in live = family_of live.table ∷ still_open live
 
 -- A split after which values have gone: it is of the values that were live at its joint.
@@ -44,13 +44,13 @@ AreNested splits = (i k : ℕ) (d : Split) → i < k → k < length splits
     → (slice_index_or splits i d).gone ≤ (slice_index_or splits k d).gone
 
 -- The table, what went and the splits are for these item lists.
-pub record IsOpen (lists : Lists) (live : Open) : Type 0 where
+pub record IsOpen (lists : Lists) (live : OpenBranch) : Type 0 where
   pub kept : AreKept lists live.table live.gone
   pub splits : All (IsSplit lists (family_of live.table) live.gone) live.splits
   pub nested : AreNested live.splits
 
 -- No branch is to come.
-pub record IsClosed (lists : Lists) (live : Open) : Type 0 where
+pub record IsClosed (lists : Lists) (live : OpenBranch) : Type 0 where
   pub kept : AreKept lists live.table live.gone
   pub none : live.splits ≡ []
 

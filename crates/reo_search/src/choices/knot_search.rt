@@ -8,7 +8,7 @@ use std::alloc::Global;
 /// is least, in order, its loop joints, and the number of the round. The memory and what the
 /// search rests on go with it. Nothing of it changes while the search goes on.
 #[derive(Drop)]
-pub(crate) struct Searched<'a, P: Primitive> {
+pub(crate) struct KnotSearch<'a, P: Primitive> {
     pub(crate) alloc: Global,
     pub(crate) basis: &'a Basis<'a, P>,
     pub(crate) sides: &'a [usize],

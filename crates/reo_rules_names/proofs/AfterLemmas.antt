@@ -1,0 +1,2 @@
+-- Breaks found one after another.
+pub use Rattle.reo_rules.proofs.AfterLemmas.{after_all, after_first, after_more, first_left, first_right, flat_all, flat_first, flat_map-append, flat_more, judged_err, judged_right, judged_same, more_flat, more_mapped, more_seen}
