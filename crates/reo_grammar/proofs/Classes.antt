@@ -1,6 +1,6 @@
 -- Laws of the classes of tokens.
 use Rattle.std.proofs.Common.{◌≡◌, ℕ, Bool, true, false, ◌&&◌, ◌||◌, not, List, [], ◌∷◌, ◌++◌, refl, sym, ◌∙◌, ap, arith, nat_le}
-use Rattle.std.proofs.lemmas.Bool.{and_parts, not-true, both_ways, and_from}
+use Rattle.std.proofs.lemmas.Bool.{and_parts, not-true as not_true, both_ways, and_from}
 use Rattle.std.specs.Str.{bytes_eq}
 use Rattle.reo_grammar.specs.declared.kind.TokenKind.{TokenKind}
 use Rattle.reo_grammar.specs.declared.kind.TokenKind.TheVariants as kinds
@@ -45,7 +45,7 @@ of_word t b d h = let e : t.bytes ≡ b = same_bytes t.bytes b ((and_parts _ _ h
 one_of-none : (t : Lexeme) (bs : List (List ℕ)) (d : Class) → is_fixed t.kind ≡ true → one_of t.bytes bs ≡ true → none_of d bs ≡ true → matches d t ≡ false
 one_of-none t [] d k h n = absurd (cc)
 one_of-none t (b ∷ bs) d k h n = or-cases (bytes_eq t.bytes b) (one_of t.bytes bs) h
-    (λ e. of_word t b d (and_from _ _ k e) ∙ not-true _ ((and_parts _ _ n).0))
+    (λ e. of_word t b d (and_from _ _ k e) ∙ not_true _ ((and_parts _ _ n).0))
     (λ e. one_of-none t bs d k e ((and_parts _ _ n).1))
 
 one_of-each : (t : Lexeme) (bs : List (List ℕ)) (d : Class) → is_fixed t.kind ≡ true → one_of t.bytes bs ≡ true → each_of d bs ≡ true → matches d t ≡ true
