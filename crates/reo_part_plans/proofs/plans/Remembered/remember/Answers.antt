@@ -15,8 +15,8 @@ pub look_at_all-requires-clause-sides : goal.look_at_all-requires-clause-sides
 look_at_all-requires-clause-sides g c =
     part_below (net_of g.P.Primitive.behaviour c.args.part.now.planning.now.circuit.now) c.known.ensures.wired c.args.part.now.planning.now.knots.now c.requires.part.planning.knots c.args.part.now.number c.requires.part.number c.sides-sides.result.now c.sides-sides.ensures
 
-pub most_inputs-requires : goal.most_inputs-requires
-most_inputs-requires g c =
+pub most_inputs-inputs-requires : goal.most_inputs-inputs-requires
+most_inputs-inputs-requires g c =
     part_below (net_of g.P.Primitive.behaviour c.args.part.now.planning.now.circuit.now) c.known.ensures.wired c.args.part.now.planning.now.knots.now c.requires.part.planning.knots c.args.part.now.number c.requires.part.number c.sides-sides.result.now c.sides-sides.ensures
 
 pub rows_at-requires : goal.rows_at-requires
