@@ -7,7 +7,7 @@
 //! on such a text.
 #![tactic(auto)]
 
-ghost use Rattle.std.specs.Prelude.{◌≡◌, ◌↔◌, IsTrue, MatchResult, Some, false};
+ghost use Rattle.std.specs.Prelude.{◌≡◌, ◌↔◌, [], IsTrue, MatchResult, Some, false};
 ghost use Rattle.std.specs.Process.{exit_status};
 ghost use Rattle.reo_command.specs.Commands.{command_of};
 ghost use Rattle.reo_command.specs.Outside.{HasEnded, IsOut, output_change};
@@ -16,14 +16,14 @@ ghost use Rattle.reo_command.specs.States.{files_change};
 ghost use Rattle.reo_command.specs.declared.command.Command.TheVariants as commands;
 ghost use Rattle.reo_live.specs.closings.Sources.{source_change};
 ghost use Rattle.reo_top.specs.Done.{IsDone};
-ghost use Rattle.reo.specs.Ended.{EndsOver};
+ghost use Rattle.reo.specs.Ended.{AreKept, EndsOver};
 
 use reo_command::{OUT_OF_MEMORY, flushed, words_of};
-use reo_io::{DiskFiles, Files, Source, StdSink, StdSource};
+use reo_io::{DiskFiles, Files, Holding, Source, StdSink, StdSource};
 use reo_top::{Command, Status, command_of, reo};
 use reo_values::{Bytes, List, NoMemory};
 use std::alloc::Global;
-use std::io::{BufWriter, Write};
+use std::io::BufWriter;
 use std::process::ExitCode;
 use std::{env, io};
 
@@ -40,7 +40,7 @@ fn exit_code(status: Status) -> ExitCode
 }
 
 /// The status of the command with these words, once all that was put is out.
-fn status_of<F: Files, R: Source, W: Write>(
+fn status_of<F: Files, R: Source, W: Holding>(
     alloc: Global,
     words: &List<Bytes>,
     files: &mut F,
@@ -51,7 +51,7 @@ fn status_of<F: Files, R: Source, W: Write>(
         files.old files.new in
         let source = source_change R.told R.given R.ends R.faults source.old source.new in
         IsOut (IsDone words.now files source)
-        (output_change out.old out.new) (writer_held out.new) result.code }
+        (output_change out.old out.new) (writer_held W.held out.new) result.code }
 {
     let status = reo(alloc, words, files, source, out);
     flushed(status, out)
@@ -59,18 +59,19 @@ fn status_of<F: Files, R: Source, W: Write>(
 
 /// What the process ends with: the status of the command with these words, or 10 where memory for
 /// the words ran out.
-fn ended<F: Files, R: Source, W: Write>(
+fn ended<F: Files, R: Source, W: Holding>(
     alloc: Global,
     words: Result<List<Bytes>, NoMemory>,
     files: &mut F,
     source: &mut R,
     out: &mut StdSink<W>,
 ) -> ExitCode
+    requires { writer_held W.held out.old ≡ [] }
     ensures { let files = files_change F.told F.failed F.given F.long F.fetches
         files.old files.new in
         let source = source_change R.told R.given R.ends R.faults source.old source.new in
-        HasEnded (λ words. IsDone words files source) words
-        (output_change out.old out.new) (writer_held out.new) (exit_status result) }
+        HasEnded (λ words. IsDone words files source) (AreKept files source) words
+        (output_change out.old out.new) (writer_held W.held out.new) (exit_status result) }
 {
     match words {
         Ok(words) => exit_code(status_of(alloc, &words, files, source, out)),
@@ -92,13 +93,14 @@ fn hears(words: &Result<List<Bytes>, NoMemory>) -> bool
 }
 
 /// What the process ends with, over the system's files and input and this writer.
-fn ended_on<W: Write>(
+fn ended_on<W: Holding>(
     rt: &HostRuntime,
     words: Result<List<Bytes>, NoMemory>,
     out: &mut StdSink<W>,
 ) -> ExitCode
+    requires { writer_held W.held out.old ≡ [] }
     ensures { EndsOver words (output_change out.old out.new)
-        (writer_held out.new) (exit_status result) }
+        (writer_held W.held out.new) (exit_status result) }
 {
     let alloc: Global = rt.alloc();
     let mut files = DiskFiles::new(alloc, rt);

@@ -7,7 +7,7 @@ use Rattle.reo_io.specs.Fetches.{Folder, fetches_after}
 use Rattle.reo_command.specs.declared.role.Role.{Role}
 use Rattle.reo_command.specs.declared.stop.Stop.{Stop}
 use Rattle.reo_command.specs.declared.stop.Stop.TheVariants.{Missed, TooLong, Refused, NoMemory}
-use Rattle.reo_command.specs.Fetched.{Content, gone, long, text, unknown, has_gone, missed, texts_given, long_among, AreTold, AreFetched, AreShort}
+use Rattle.reo_command.specs.Fetched.{Content, gone, long, text, unknown, has_gone, missed, texts_given, long_among, AreTold, AreWithin, AreFetched, AreShort}
 use Rattle.reo_command.specs.Readings.{ReadsFile, StopsFile, IsReadAs, IsReadFrom}
 use Rattle.reo_command.specs.ReadSteps.{IsTextRead}
 use Rattle.reo_command.specs.States.{FilesState, Change}
@@ -65,6 +65,12 @@ long_more (n ∷ ns) m (long ∷ cs) few = ap (λ (ms : List (List ℕ)). n ∷ 
 long_more (n ∷ ns) m (text bytes ∷ cs) few = long_more ns m cs (omega (arith, few))
 long_more (n ∷ ns) m (unknown ∷ cs) few = long_more ns m cs (omega (arith, few))
 
+within_more : (roles : List Role) (q : Role) (answers : List Content) → AreWithin roles answers → AreWithin (roles ++ q ∷ []) answers
+within_more [] q [] h = tt
+within_more (r ∷ rs) q [] h = tt
+within_more [] q (c ∷ cs) h = absurd h
+within_more (r ∷ rs) q (c ∷ cs) h = (h.0, within_more rs q cs h.1)
+
 if_told : {X : Type 0} (o : Option X) (A B : X → Type 0) → ((x : X) → A x → B x) → IfSome o A → IfSome o B
 if_told None A B f h = h
 if_told (Some x) A B f h = f x h
@@ -80,7 +86,7 @@ module _ (roles : List Role) (names : List (List ℕ)) (q : Role) (m : List ℕ)
     few = let e : length (names ++ m ∷ []) ≡ length names + length (m ∷ []) = length-append names (m ∷ []) in omega (arith, f.few, e);
     count = f.count;
     failed = f.failed ∙ ap (λ (xs : List (List ℕ)). files.old.failed ++ xs) (sym (missed_more names m answers f.few));
-    short = f.short;
+    within = within_more roles q answers f.within;
     given = f.given ∙ ap (λ (fs : List (List ℕ × List ℕ)). files.old.given ++ fs) (sym (given_more names m answers f.few));
     long_names = f.long_names ∙ ap (λ (ns : List (List ℕ)). files.old.long ++ ns) (sym (long_more names m answers f.few));
     same = f.same;
@@ -96,6 +102,12 @@ told_then folder [] (n ∷ ns) q m answers more same all h k = absurd (omega (ar
 told_then folder (r ∷ rs) [] q m answers more same all h k = absurd (omega (arith, same))
 told_then folder [] [] q m (c ∷ cs) more same all h k = absurd h
 told_then folder (r ∷ rs) (n ∷ ns) q m [] more same all h k = absurd (omega (arith, all))
+
+within_then : (roles : List Role) (q : Role) (answers more : List Content) → length answers ≡ length roles → AreWithin roles answers → AreWithin (q ∷ []) more → AreWithin (roles ++ q ∷ []) (answers ++ more)
+within_then [] q [] more all h k = k
+within_then (r ∷ rs) q (c ∷ cs) more all h k = (h.0, within_then rs q cs more (omega (arith, all)) h.1 k)
+within_then [] q (c ∷ cs) more all h k = absurd h
+within_then (r ∷ rs) q [] more all h k = absurd (omega (arith, all))
 
 missed_then : (names : List (List ℕ)) (m : List ℕ) (answers more : List Content) → length answers ≡ length names → missed (names ++ m ∷ []) (answers ++ more) ≡ missed names answers ++ missed (m ∷ []) more
 missed_then [] m [] more all = refl
@@ -149,7 +161,7 @@ module _ (roles : List Role) (names : List (List ℕ)) (q : Role) (m : List ℕ)
     count = g.count ∙ ap (fetches_after (length more)) f.count ∙ count_then answers more before.fetches;
     failed = g.failed ∙ ap (λ (xs : List (List ℕ)). xs ++ missed (m ∷ []) more) f.failed ∙ append_assoc before.failed (missed names answers) (missed (m ∷ []) more)
         ∙ ap (λ (xs : List (List ℕ)). before.failed ++ xs) (sym (missed_then names m answers more all));
-    short = short_then answers more f.short g.short;
+    within = within_then roles q answers more (all ∙ sym same) f.within g.within;
     given = g.given ∙ ap (λ (fs : List (List ℕ × List ℕ)). fs ++ texts_given (m ∷ []) more) f.given ∙ append_assoc before.given (texts_given names answers) (texts_given (m ∷ []) more)
         ∙ ap (λ (fs : List (List ℕ × List ℕ)). before.given ++ fs) (sym (given_then names m answers more all));
     long_names = g.long_names ∙ ap (λ (ns : List (List ℕ)). ns ++ long_among (m ∷ []) more) f.long_names ∙ append_assoc before.long (long_among names answers) (long_among (m ∷ []) more)
@@ -233,7 +245,7 @@ none_fetched names files same = record {
   few = omega arith;
   count = ap (λ (f : FilesState). f.fetches) same;
   failed = ap (λ (f : FilesState). f.failed) same ∙ sym (append-nil files.old.failed) ∙ ap (λ (ns : List (List ℕ)). files.old.failed ++ ns) (sym (missed_none names));
-  short = tt;
+  within = tt;
   given = ap (λ (f : FilesState). f.given) same ∙ sym (append-nil files.old.given) ∙ ap (λ (fs : List (List ℕ × List ℕ)). files.old.given ++ fs) (sym (given_none names));
   long_names = ap (λ (f : FilesState). f.long) same ∙ sym (append-nil files.old.long) ∙ ap (λ (ns : List (List ℕ)). files.old.long ++ ns) (sym (long_none names));
   same = ap (λ (f : FilesState). f.told) same;

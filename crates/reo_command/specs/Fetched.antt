@@ -79,16 +79,29 @@ abbrev pub AreShort : List Content → Type 0
 AreShort [] = Unit {0}
 AreShort (c ∷ cs) = IsShort c × AreShort cs
 
+-- A text is within the limit of its role.
+abbrev pub IsWithin : Role → Content → Type 0
+IsWithin role gone = Unit {0}
+IsWithin role long = Unit {0}
+IsWithin role (text bytes) = length bytes ≤ most_bytes role
+IsWithin role unknown = Unit {0}
+
+-- So is each text among the answers for the first of these roles.
+abbrev pub AreWithin : List Role → List Content → Type 0
+AreWithin roles [] = Unit {0}
+AreWithin [] (c ∷ cs) = ⊥
+AreWithin (r ∷ rs) (c ∷ cs) = IsWithin r c × AreWithin rs cs
+
 -- The first files of these roles and names were fetched, in order, with these answers: as many fetches were made as there
 -- are answers, the names of those that failed were noted, the texts among the answers are what the fetches gave, those that are
--- too long are what they told to be, and the files tell what they told. No text is long.
+-- too long are what they told to be, and the files tell what they told. Each text is within its limit.
 pub record AreFetched (roles : List Role) (names : List (List ℕ)) (answers : List Content) (files : Change FilesState) : Type 0 where
   pub few : length answers ≤ length names
   pub count : files.new.fetches ≡ fetches_after (length answers) files.old.fetches
   pub failed : files.new.failed ≡ files.old.failed ++ missed names answers
   pub given : files.new.given ≡ files.old.given ++ texts_given names answers
   pub long_names : files.new.long ≡ files.old.long ++ long_among names answers
-  pub short : AreShort answers
+  pub within : AreWithin roles answers
   pub same : files.new.told ≡ files.old.told
   pub told : IfSome files.old.told (λ folder. AreTold folder roles names answers)
 

@@ -32,7 +32,8 @@ pub record IsOut (Comes : Change SinkState → ℕ → Type 0) (sink : Change Si
   pub comes : Comes (record { old = sink.old; new = mid }) came
   pub flushed : IsFlushed (record { old = mid; new = sink.new }) held came code
 
--- What a program has ended with: what its command comes to for its words, or that memory for the words ran out.
-abbrev pub HasEnded : (List (List ℕ) → Change SinkState → ℕ → Type 0) → Result (List (List ℕ)) NoMemory → Change SinkState → List ℕ → ℕ → Type 0
-HasEnded Comes (Ok words) sink held code = IsOut (Comes words) sink held code
-HasEnded Comes (Err _) sink held code = (code ≡ out_of_memory) × (sink.new ≡ sink.old)
+-- What a program has ended with: what its command comes to for its words, or that memory for the words ran out. Then the output
+-- is as it was and holds nothing back, and what it reads from is kept.
+abbrev pub HasEnded : (List (List ℕ) → Change SinkState → ℕ → Type 0) → (Kept : Type 0) → Result (List (List ℕ)) NoMemory → Change SinkState → List ℕ → ℕ → Type 0
+HasEnded Comes Kept (Ok words) sink held code = IsOut (Comes words) sink held code
+HasEnded Comes Kept (Err _) sink held code = (code ≡ out_of_memory) × (sink.new ≡ sink.old) × (held ≡ []) × Kept

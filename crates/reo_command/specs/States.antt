@@ -1,5 +1,5 @@
 -- Files and sinks in one state, and what a call did to them.
-use Rattle.std.specs.Prelude.{ℕ, List, Option}
+use Rattle.std.specs.Prelude.{ℕ, List, [], Option, None}
 use Rattle.reo_io.specs.Fetches.{Folder}
 
 -- A sink: the bytes that it has got, where it tells them, and how often it has failed.
@@ -15,6 +15,10 @@ pub record FilesState : Type 0 where
   pub given : List (List ℕ × List ℕ)
   pub long : List (List ℕ)
   pub fetches : ℕ
+
+-- Files of the system, of which none was fetched yet.
+abbrev pub unfetched : FilesState
+unfetched = record { told = None; failed = []; given = []; long = []; fetches = 0 }
 
 -- The state before a call, and the one after it.
 pub record Change (X : Type 0) : Type 0 where

@@ -7,12 +7,12 @@ ghost use Rattle.reo_command.specs.Outside.{IsFlushed, output_change};
 ghost use Rattle.reo_io.specs.Real.{writer_held};
 
 use crate::{OUT_OF_MEMORY, Status, WRITE_FAULT};
-use reo_io::{SinkFault, StdSink};
+use reo_io::{Holding, SinkFault, StdSink};
 use reo_values::{Bytes, List, NoMemory};
 use std::alloc::Global;
 use std::env::Args;
 use std::io;
-use std::io::{ErrorKind, Write};
+use std::io::ErrorKind;
 
 /// The words behind the first argument, which is the program's name, in their order.
 fn words_behind(alloc: Global, arguments: Args) -> Result<List<Bytes>, NoMemory>
@@ -45,8 +45,8 @@ pub fn words_of(alloc: Global, given: io::Result<Args>) -> Result<List<Bytes>, N
 
 /// Has the writer give on what it holds back, and answers the status behind that: 9 where it
 /// failed, unless the status was that of memory that ran out.
-pub fn flushed<W: Write>(status: Status, out: &mut StdSink<W>) -> Status
-    ensures { IsFlushed (output_change out.old out.new) (writer_held out.new)
+pub fn flushed<W: Holding>(status: Status, out: &mut StdSink<W>) -> Status
+    ensures { IsFlushed (output_change out.old out.new) (writer_held W.held out.new)
         status.code result.code }
 {
     match out.flush() {

@@ -3,7 +3,7 @@
 //! circuit in a round of it.
 #![tactic(auto)]
 
-ghost use Rattle.std.specs.Prelude.{◌≡◌};
+ghost use Rattle.std.specs.Prelude.{◌≡◌, []};
 ghost use Rattle.std.specs.Process.{exit_status};
 ghost use Rattle.reo_command.specs.Outside.{HasEnded, IsOut, output_change};
 ghost use Rattle.reo_io.specs.Real.{writer_held};
@@ -13,10 +13,10 @@ ghost use Rattle.reo_draw.specs.Ended.{EndsOver};
 
 use reo_command::{OUT_OF_MEMORY, Status, flushed, words_of};
 use reo_draw_command::draw;
-use reo_io::{DiskFiles, Files, StdSink};
+use reo_io::{DiskFiles, Files, Holding, StdSink};
 use reo_values::{Bytes, List, NoMemory};
 use std::alloc::Global;
-use std::io::{BufWriter, Write};
+use std::io::BufWriter;
 use std::process::ExitCode;
 use std::{env, io};
 
@@ -33,7 +33,7 @@ fn exit_code(status: Status) -> ExitCode
 }
 
 /// The status of the command with these words, once all that was put is out.
-fn status_of<F: Files, W: Write>(
+fn status_of<F: Files, W: Holding>(
     alloc: Global,
     words: &List<Bytes>,
     files: &mut F,
@@ -42,7 +42,7 @@ fn status_of<F: Files, W: Write>(
     ensures { let files = files_change F.told F.failed F.given F.long F.fetches
         files.old files.new in
         IsOut (IsDone words.now files)
-        (output_change out.old out.new) (writer_held out.new) result.code }
+        (output_change out.old out.new) (writer_held W.held out.new) result.code }
 {
     let status = draw(alloc, words, files, out);
     flushed(status, out)
@@ -50,16 +50,17 @@ fn status_of<F: Files, W: Write>(
 
 /// What the process ends with: the status of the command with these words, or 10 where memory for
 /// the words ran out.
-fn ended<F: Files, W: Write>(
+fn ended<F: Files, W: Holding>(
     alloc: Global,
     words: Result<List<Bytes>, NoMemory>,
     files: &mut F,
     out: &mut StdSink<W>,
 ) -> ExitCode
+    requires { writer_held W.held out.old ≡ [] }
     ensures { let files = files_change F.told F.failed F.given F.long F.fetches
         files.old files.new in
-        HasEnded (λ words. IsDone words files) words
-        (output_change out.old out.new) (writer_held out.new) (exit_status result) }
+        HasEnded (λ words. IsDone words files) (files.new ≡ files.old) words
+        (output_change out.old out.new) (writer_held W.held out.new) (exit_status result) }
 {
     match words {
         Ok(words) => exit_code(status_of(alloc, &words, files, out)),
@@ -68,13 +69,14 @@ fn ended<F: Files, W: Write>(
 }
 
 /// What the process ends with, over the system's files and this writer.
-fn ended_on<W: Write>(
+fn ended_on<W: Holding>(
     rt: &HostRuntime,
     words: Result<List<Bytes>, NoMemory>,
     out: &mut StdSink<W>,
 ) -> ExitCode
+    requires { writer_held W.held out.old ≡ [] }
     ensures { EndsOver words (output_change out.old out.new)
-        (writer_held out.new) (exit_status result) }
+        (writer_held W.held out.new) (exit_status result) }
 {
     let alloc: Global = rt.alloc();
     let mut files = DiskFiles::new(alloc, rt);

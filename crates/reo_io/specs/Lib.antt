@@ -4,6 +4,7 @@ pub mod Fetches
 pub mod Given
 pub mod Memory
 pub mod Notes
+pub mod Openings
 pub mod Real
 pub mod Sinks
 pub mod Sources

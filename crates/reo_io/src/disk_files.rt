@@ -2,7 +2,7 @@
 ghost use Rattle.std.specs.Prelude.{◌≡◌, ◌<◌, ◌^◌, []};
 
 use crate::failed_names::note;
-use crate::opening::open;
+use crate::opening::Openings;
 use crate::reading::read_file;
 use crate::{FetchFault, Files, GivenFiles, GivenNames};
 use reo_values::{Bytes, List};
@@ -18,17 +18,18 @@ pub struct DiskFiles<'a, R: rt::Files> {
     fetches: u64,
     given: GivenFiles,
     long: GivenNames,
-    opened: GivenNames,
+    opened: Openings<R::File>,
 }
 
 impl<'a, R: rt::Files> DiskFiles<'a, R> {
-    ghost use Rattle.reo_io.specs.Real.{disk_failed, disk_given, disk_long, disk_opened};
+    ghost use Rattle.reo_io.specs.Real.{disk_failed, disk_fetches, disk_given, disk_long, disk_opened};
 
-    /// The files of this system. No fetch has failed yet.
+    /// The files of this system, of which none was fetched yet.
     pub fn new(alloc: Global, system: &'a R) -> Self
         ensures failed { disk_failed result ≡ [] }
         ensures given { disk_given result ≡ [] }
         ensures long { disk_long result ≡ [] }
+        ensures fetches { disk_fetches result ≡ 0 }
         ensures opened { disk_opened result ≡ [] }
     {
         DiskFiles {
@@ -37,7 +38,7 @@ impl<'a, R: rt::Files> DiskFiles<'a, R> {
             fetches: 0,
             given: GivenFiles::new(),
             long: GivenNames::new(),
-            opened: GivenNames::new(),
+            opened: Openings::new(),
         }
     }
 }
@@ -45,7 +46,7 @@ impl<'a, R: rt::Files> DiskFiles<'a, R> {
 impl<R: rt::Files> Files for DiskFiles<'_, R> {
     ghost use Rattle.reo_io.specs.Fetches.{Fetches, Holds, failed_after, fetches_after, long_after};
     ghost use Rattle.reo_io.specs.Given.{given_after};
-    ghost use Rattle.reo_io.specs.Real.{Opens, WasRead, disk_failed, disk_fetches, disk_given, disk_long, disk_opened, disk_told};
+    ghost use Rattle.reo_io.specs.Real.{Opens, WasRead, disk_file, disk_failed, disk_fetches, disk_given, disk_long, disk_opened, disk_told};
 
     ghost told = { disk_told };
 
@@ -74,14 +75,14 @@ impl<R: rt::Files> Files for DiskFiles<'_, R> {
             (disk_given self.old) name.now room.new result }
         ensures counted { disk_fetches self.new ≡ fetches_after 1 (disk_fetches self.old) }
         ensures told_same { disk_told self.new ≡ disk_told self.old }
-        ensures opened { Opens (disk_opened self.old) (disk_opened self.new) name.now result }
-        ensures read { WasRead R.File.remaining limit room.new result }
+        ensures opened { Opens (disk_opened self.old) (disk_opened self.new) name.now }
+        ensures read { WasRead R.File.remaining name.now (disk_file self.new) limit room.new result }
     {
         self.fetches = self.fetches.wrapping_add(1);
         let Ok(path) = str::from_utf8(name) else {
             return Err(note(alloc, &mut self.failed, name));
         };
-        let mut file = match open(self.system, path, &mut self.opened) {
+        let mut file = match self.opened.open(self.system, path) {
             Ok(file) => file,
             Err(fault) if fault.kind() == io::ErrorKind::OutOfMemory => {
                 return Err(FetchFault::NoMemory);

@@ -1,10 +1,10 @@
 //! The sink over any writer of std.
-ghost use Rattle.std.specs.Prelude.{◌≡◌, ◌<◌, length, [], Some};
+ghost use Rattle.std.specs.Prelude.{◌≡◌, ◌<◌, length, [], OnOk, Some};
 ghost use Rattle.std.specs.Io.KnownBytes.{Keeps, WriteAppends};
 ghost use Rattle.reo_io.specs.Causes.{HasCause, faults_after};
 ghost use Rattle.reo_io.specs.Sinks.{Puts};
 
-use crate::{GivenBytes, Sink, SinkFault};
+use crate::{GivenBytes, Holding, Sink, SinkFault};
 use std::io::Write;
 
 /// The sink over a writer, which tells the bytes that the writer took.
@@ -13,43 +13,21 @@ pub struct StdSink<W> {
     writer: W,
     faults: u64,
     took: GivenBytes,
-    held: GivenBytes,
 }
 
 impl<W: Write> StdSink<W> {
-    ghost use Rattle.reo_io.specs.Real.{held_after, writer_faults, writer_held, writer_of, writer_took};
+    ghost use Rattle.reo_io.specs.Real.{writer_faults, writer_of, writer_took};
 
     /// The sink over this writer, which has not failed yet.
     pub fn new(writer: W) -> Self
         ensures writer { writer_of result ≡ writer }
         ensures took { writer_took result ≡ [] }
-        ensures held { writer_held result ≡ [] }
         ensures faults { writer_faults result ≡ 0 }
     {
         StdSink {
             writer,
             faults: 0,
             took: GivenBytes::new(),
-            held: GivenBytes::new(),
-        }
-    }
-
-    /// Has the writer give on what it holds back. Where it fails, that counts as a fault.
-    pub fn flush(&mut self) -> Result<(), SinkFault>
-        ensures faults { writer_faults self.new ≡ faults_after (writer_faults self.old) result }
-        ensures took { writer_took self.new ≡ writer_took self.old }
-        ensures held { writer_held self.new ≡ held_after (writer_held self.old) result }
-        ensures bytes { Keeps (W.contents (writer_of self.old)) (W.contents (writer_of self.new)) }
-    {
-        match self.writer.flush() {
-            Ok(()) => {
-                self.held = GivenBytes::new();
-                Ok(())
-            }
-            Err(_) => {
-                self.faults = self.faults.saturating_add(1);
-                Err(SinkFault::Failed)
-            }
         }
     }
 
@@ -58,6 +36,26 @@ impl<W: Write> StdSink<W> {
         ensures { result ≡ writer_of self }
     {
         self.writer
+    }
+}
+
+impl<W: Holding> StdSink<W> {
+    ghost use Rattle.reo_io.specs.Real.{writer_faults, writer_held, writer_of, writer_took};
+
+    /// Has the writer give on what it holds back. Where it fails, that counts as a fault.
+    pub fn flush(&mut self) -> Result<(), SinkFault>
+        ensures faults { writer_faults self.new ≡ faults_after (writer_faults self.old) result }
+        ensures took { writer_took self.new ≡ writer_took self.old }
+        ensures held { OnOk result (writer_held W.held self.new ≡ []) }
+        ensures bytes { Keeps (W.contents (writer_of self.old)) (W.contents (writer_of self.new)) }
+    {
+        match self.writer.give_on() {
+            Ok(()) => Ok(()),
+            Err(_) => {
+                self.faults = self.faults.saturating_add(1);
+                Err(SinkFault::Failed)
+            }
+        }
     }
 }
 
@@ -82,7 +80,6 @@ impl<W: Write> Sink for StdSink<W> {
         match self.writer.write(piece) {
             Ok(count) if 0 < count => {
                 self.took = self.took.then(&piece[..count]);
-                self.held = self.held.then(&piece[..count]);
                 Ok(count)
             }
             _ => {

@@ -26,7 +26,7 @@ use Rattle.reo_command.specs.top_base.Answered.{IsAnswered}
 use Rattle.reo_command.specs.top_base.Cases.{Cases, IsFailure}
 use Rattle.reo_live.specs.closings.Sources.{SourceChange}
 use Rattle.reo_command.specs.Commands.{command_of, is_free, roles_of}
-use Rattle.reo_command.specs.Fetched.{Content, gone, long, text, unknown, content_of, texts_given, AreShort, AreTold}
+use Rattle.reo_command.specs.Fetched.{Content, gone, long, text, unknown, content_of, texts_given, AreWithin, AreTold}
 use Rattle.reo_top.specs.Headline.{Accepted, GaveAccepted, IsTraced, Headline}
 use Rattle.reo_command.specs.Limits.{limits_of}
 use Rattle.reo_top.specs.Owed.{owed_of}
@@ -225,9 +225,10 @@ module _ (justified : RunsAreJustified kind_rules) (made : CircuitsAreMade) (pla
       let run : IsAnswered (is_free Run) (owed_of Run words h.events) (roles_of Run) (a.circuit.0 ∷ a.script.0 ∷ []) files sink code = answered_with words files source sink code Run (a.circuit.0 ∷ a.script.0 ∷ []) a.run a.names h in
       let are : run.answers ≡ text a.circuit.1 ∷ text a.script.1 ∷ [] =
       both_given a.circuit.0 a.script.0 run.answers a.circuit a.script run.fetched.few (append_same files.old.given (texts_given (a.circuit.0 ∷ a.script.0 ∷ []) run.answers) (a.circuit ∷ a.script ∷ []) (sym run.fetched.given ∙ a.given)) in
-      let short : AreShort (text a.circuit.1 ∷ text a.script.1 ∷ []) = subst (λ (cs : List Content). AreShort cs) are run.fetched.short in
+      let within : AreWithin (Circuit ∷ Script ∷ []) (text a.circuit.1 ∷ text a.script.1 ∷ []) = subst (λ (cs : List Content). AreWithin (Circuit ∷ Script ∷ []) cs) are run.fetched.within in
+      let few : length a.circuit.1 ≤ 1048576 = within.0 in
       let reads : ReadsRun run.answers r = subst (λ (cs : List Content). ReadsRun cs r) (sym are) a.reads in
-      traced (limits_of words) justified r (wired made plain a.circuit.1 r.flat short.0 a.reads.0) sink code fine run.answers (λ stop stops. absurd (run_reading.apart run.answers r stop reads stops)) (λ x other. reads) run.cases
+      traced (limits_of words) justified r (wired made plain a.circuit.1 r.flat (omega (arith, few)) a.reads.0) sink code fine run.answers (λ stop stops. absurd (run_reading.apart run.answers r stop reads stops)) (λ x other. reads) run.cases
 
   pub headline : Headline words files sink code
   headline = record { told = told_as files.old.told refl; given = given_as }

@@ -27,7 +27,7 @@ use Rattle.reo_command.specs.States.{SinkState, Change}
 use Rattle.reo_command.specs.top_base.Cases.{AreFirstLines, Cases, IsExact, IsFair, TellsFaults, Refuses, SaysNoMemory}
 use Rattle.reo_top.specs.Closed.{Says, IsClosedAs}
 use Rattle.reo_command.specs.top_base.Outputs.{IsLine}
-use Rattle.reo_top.specs.Heard.{closing_text, closing_status, HearsCircuit, IsHeardOn, IsOwed, TakesFew, TellsMisses}
+use Rattle.reo_top.specs.Heard.{closing_text, closing_status, HearsCircuit, IsHeardOn, IsOwed, TakesFew}
 use Rattle.reo_top.proofs.AnswerTexts.{answers_end}
 use Rattle.reo_command.proofs.top_base.CaseLemmas.{line_cases, line_code, line_written, lines_cases}
 use Rattle.reo_top.proofs.ClosingStatuses.{last_is, status_last, text_last}

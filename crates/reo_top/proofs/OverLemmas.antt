@@ -1,5 +1,5 @@
 -- What hearing a source on the circuit of a file has come to.
-use Rattle.std.proofs.Common.{◌≡◌, ◌∙◌, inl, inr, ℕ, false, List, [], ◌∷◌, sym, refl, arith}
+use Rattle.std.proofs.Common.{◌∙◌, inl, inr, ℕ, false, List, [], ◌∷◌, sym, refl, arith}
 use Rattle.std.specs.Prelude.{Option, Err}
 use Rattle.reo_live.specs.closings.Sources.{SourceChange, Events, followed, source_change, state_of, untaken}
 use Rattle.reo_command.specs.declared.command.Command.TheVariants.{Live}
@@ -30,7 +30,7 @@ module _ (budget : ℕ) (name : List ℕ) (files : Change FilesState) (sink : Ch
     misses = heard.misses;
     answered = heard_answered ReadsCircuit StopsCheck (HearsCircuit budget heard.events) (statuses_of Live) sink code answers (reading_at live_reading answers) flat reads heard.cases
         heard.events.failed heard.exact (heard_three budget heard.events flat) (Circuit ∷ []) (name ∷ []) files fetched;
-    untouched = λ stop stops. absurd ((reading_at live_reading answers).apart flat stop reads stops);
+    untouched = λ none. absurd (none flat reads);
     whatever = λ here. elim (heard.whatever here) [
       | inl said ↦ inl said
       | inr any ↦ inr (λ more. heard_answered ReadsCircuit StopsCheck (HearsCircuit budget (followed heard.events more)) (statuses_of Live) sink code answers (reading_at live_reading answers) flat reads (any more).cases
@@ -50,6 +50,6 @@ module _ (budget : ℕ) (name : List ℕ) (files : Change FilesState) (sink : Ch
           few = none_taken_few told given ends faults source code;
           misses = λ rose. absurd (omega (arith, rose));
           answered = refused_answered ReadsCircuit StopsCheck (HearsCircuit budget none) (statuses_of Live) sink code answers (reading_at live_reading answers) stop stopped refused (Circuit ∷ []) (name ∷ []) files fetched;
-          untouched = λ other stops. refl;
+          untouched = λ had. refl;
           whatever = λ here. inr (λ more. refused_answered ReadsCircuit StopsCheck (HearsCircuit budget (followed none more)) (statuses_of Live) sink code answers (reading_at live_reading answers) stop stopped refused (Circuit ∷ []) (name ∷ []) files fetched);
         }

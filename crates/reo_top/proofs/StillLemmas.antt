@@ -40,7 +40,7 @@ module _ {R : Type 0} (told : R → Option (List ℕ)) (given : R → List ℕ) 
     few = none_taken_few told given ends faults source code;
     misses = λ rose. absurd (omega (arith, rose));
     answered = subst (λ (failed : Bool). IsAnsweredWith failed free (Owed none) roles names files sink code) (sym no_take) h;
-    untouched = λ stop stops. refl;
+    untouched = λ had. refl;
     whatever = λ here. inr (λ more. subst (λ (Owes : List Content → Outputs). IsAnswered free Owes roles names files sink code) (same (followed none more)) h);
   }
 

@@ -35,7 +35,7 @@ module _ {R : Type 0} (told : R → Option (List ℕ)) (given : R → List ℕ) 
   pub none_taken_few : (code : ℕ) → TakesFew (source_change told given ends faults source source) code
   none_taken_few code = record {
     bytes = [];
-    taken = record { later = omega arith; ends_later = omega arith; given = sym (append-nil (given source)); told = still_left (told source) };
+    taken = record { later = omega arith; ends_later = omega arith; ended = λ less. absurd (omega (arith, less)); given = sym (append-nil (given source)); told = still_left (told source) };
     few = omega arith;
     long = λ four. inl refl;
   }

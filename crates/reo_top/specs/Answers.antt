@@ -2,14 +2,13 @@
 use Rattle.std.specs.Prelude.{ℕ, ◌≡◌, ◌⊎◌, ◌&&◌, Bool, true, false, List, [], Option, Some, None}
 use Rattle.reo_command.specs.declared.command.Command.{Command}
 use Rattle.reo_command.specs.declared.role.Role.{Role}
-use Rattle.reo_command.specs.declared.stop.Stop.{Stop}
 use Rattle.reo_command.specs.top_base.Answered.{IsAnsweredWith}
 use Rattle.reo_command.specs.top_base.Cases.{IsFair, TellsFaults}
 use Rattle.reo_live.specs.closings.Sources.{SourceChange, Events, AreTaken, SaidEnd, followed}
 use Rattle.reo_command.specs.Commands.{command_of, roles_of, is_free, takes_events, names_of}
 use Rattle.reo_command.specs.Fetched.{Content}
 use Rattle.reo_command.specs.top_base.Outputs.{Outputs}
-use Rattle.reo_command.specs.Readings.{StopsCheck}
+use Rattle.reo_command.specs.Readings.{FlatCircuit, ReadsCircuit}
 use Rattle.reo_top.specs.Heard.{TakesFew, TellsMisses}
 use Rattle.reo_top.specs.Owed.{owed_for}
 use Rattle.reo_command.specs.States.{SinkState, FilesState, Change}
@@ -36,14 +35,14 @@ takes_for (Some command) = takes_events command
 
 -- What a command has come to over a source, for some events: those that it tells, where it does. A front of them was taken
 -- from the source, and where it tells nothing all of them: there the command has come to this for whatever may follow them,
--- unless the source has said that it ends, or has failed. Where a circuit is not had, nothing was taken.
+-- unless the source has said that it ends, or has failed. Where no circuit is had, the source is as it was.
 pub record IsAnsweredOver (takes free : Bool) (Owed : Events → List Content → Outputs) (roles : List Role) (names : List (List ℕ)) (files : Change FilesState) (source : SourceChange) (sink : Change SinkState) (code : ℕ) : Type 0 where
   pub events : Events
   pub taken : AreTaken events source
   pub few : TakesFew source code
   pub misses : TellsMisses source code
   pub answered : IsAnsweredWith (takes && events.failed) free (Owed events) roles names files sink code
-  pub untouched : (stop : Stop) → StopsCheck answered.answers stop → source.new ≡ source.old
+  pub untouched : ((flat : FlatCircuit) → ReadsCircuit answered.answers flat → ⊥) → source.new ≡ source.old
   pub whatever : events.failed ≡ false → SaidEnd source
       ⊎ ((more : List ℕ) → IsAnsweredWith false free (Owed (followed events more)) roles names files sink code)
 

@@ -2,7 +2,7 @@
 use Rattle.std.specs.Prelude.{ℕ, List}
 use Rattle.reo_command.specs.States.{SinkState, FilesState, Change}
 use Rattle.reo_live.specs.closings.Sources.{SourceChange}
-use Rattle.reo_top.specs.Answers.{Answered, IsHonest}
+use Rattle.reo_top.specs.Answers.{Answered, IsHonest, KeepsInputs}
 use Rattle.reo_top.specs.Complete.{Complete}
 use Rattle.reo_top.specs.Headline.{Headline}
 
@@ -11,3 +11,4 @@ pub record IsDone (words : List (List ℕ)) (files : Change FilesState) (source 
   pub complete : Complete words files sink code
   pub answer : Answered words files source sink code
   pub honest : IsHonest words sink code
+  pub inputs : KeepsInputs words files source.old source.new

@@ -1,5 +1,7 @@
+use Rattle.std.proofs.Common.{ap}
 use Rattle.std.specs.Prelude.{Some}
 use Rattle.reo_io.specs.Real.{writer_faults, writer_took}
+use Rattle.reo_live.specs.closings.Sources.{state_of}
 use Rattle.reo.proofs.status_of.Goals as goal
 
 pub returns : goal.returns
@@ -11,6 +13,10 @@ returns g c = record {
     complete = c.reo-status.ensures.complete;
     answer = c.reo-status.ensures.answer;
     honest = c.reo-status.ensures.honest;
+    inputs = record {
+      told = c.reo-status.ensures.inputs.told;
+      source = λ still. ap (state_of g.R.Source.told g.R.Source.given g.R.Source.ends g.R.Source.faults) (c.reo-status.ensures.inputs.source still);
+    };
   };
   flushed = c.flushed.ensures;
 }

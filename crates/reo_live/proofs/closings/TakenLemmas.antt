@@ -1,5 +1,6 @@
 -- Bytes that were taken, piece by piece, and all that a source had.
-use Rattle.std.proofs.Common.{◌≡◌, ◌∙◌, ℕ, ◌+◌, ◌≤◌, Bool, true, false, List, [], ◌∷◌, ◌++◌, take, sym, subst, ap, refl, arith, Result, Ok, Err}
+use Rattle.std.proofs.Common.{inl, inr, ◌≡◌, ◌∙◌, ℕ, zero, suc, ◌+◌, ◌≤◌, ◌<◌, Bool, true, false, List, [], ◌∷◌, ◌++◌, length, take, sym, subst, ap, refl, arith, length-append, Result, Ok, Err}
+use Rattle.std.proofs.Math.Nat.{eq-or-lt_of_le}
 use Rattle.std.specs.Prelude.{Option, Some, None, IfSome}
 use Rattle.std.specs.Option.{unwrap_or}
 use Rattle.std.proofs.lemmas.Bool.{true≢false, false≢true}
@@ -43,11 +44,57 @@ more_ends ends (byte ∷ bytes) = omega arith
 ends_on : (old mid new : ℕ) (piece : List ℕ) → old ≤ mid → new ≡ empties_after mid piece → old ≤ new
 ends_on old mid new piece first is = let next = more_ends mid piece in omega (arith, first, is, next)
 
+-- Where nothing is left, what was taken is all.
+all_taken : (all taken more : List ℕ) → all ≡ taken ++ more → length more ≡ 0 → all ≡ taken
+all_taken all taken [] is none = is ∙ append-nil taken
+all_taken all taken (b ∷ bs) is none = absurd (omega (arith, none))
+
+-- A take that says the end has given no byte.
+no_byte : (ends count : ℕ) (room : List ℕ) → count ≤ length room → ends < empties_after ends (take count room) → count ≡ 0
+no_byte ends zero room fits rose = refl
+no_byte ends (suc n) [] fits rose = absurd (omega (arith, fits))
+no_byte ends (suc n) (b ∷ bs) fits rose = absurd (omega (arith, rose))
+
+-- Nothing is left behind the end.
+none_more : (all bytes piece left more : List ℕ) → all ≡ bytes ++ left → left ≡ piece ++ more → all ≡ bytes → length more ≡ 0
+none_more all bytes piece left more is front whole =
+    let a : length all ≡ length (bytes ++ left) = ap length is in
+    let b : length left ≡ length (piece ++ more) = ap length front in
+    let c : length all ≡ length bytes = ap length whole in
+    let d = length-append bytes left in
+    let e = length-append piece more in
+    omega (arith, a, b, c, d, e)
+
+end_more : (left piece more : List ℕ) → left ≡ piece ++ more → left ≡ [] → length more ≡ 0
+end_more left piece more front none =
+    let b : length left ≡ length (piece ++ more) = ap length front in
+    let c : length left ≡ length {A = ℕ} [] = ap length none in
+    let e = length-append piece more in
+    omega (arith, b, c, e)
+
+-- What a source has told and given where it has said that it ends.
+some_ended : (old mid new : ℕ) (all bytes room left : List ℕ) (now : Option (List ℕ)) (count : ℕ) → count ≤ length room → old ≤ mid → (old < mid → all ≡ bytes) → new ≡ empties_after mid (take count room)
+    → all ≡ bytes ++ left → Takes {E = SourceFault} (Some left) now room (Ok count) → old < new → all ≡ bytes ++ take count room
+some_ended old mid new all bytes room left now count fits later ended is front took less =
+    let joined : all ≡ (bytes ++ take count room) ++ took.0 = front ∙ (ap (λ (l : List ℕ). bytes ++ l) took.2 ∙ sym (append_assoc bytes (take count room) took.0)) in
+    all_taken all (bytes ++ take count room) took.0 joined (elim (eq-or-lt_of_le later) [
+      | inl same ↦ end_more left (take count room) took.0 took.2 (took.3 (no_byte mid count room fits (omega (arith, same, is, less))))
+      | inr rose ↦ none_more all bytes (take count room) left took.0 front took.2 (ended rose)
+    ])
+
+ended_more : (old mid new : ℕ) (told at now : Option (List ℕ)) (bytes room : List ℕ) (count : ℕ) → count ≤ length room → old ≤ mid → (old < mid → IfSome told (λ all. all ≡ bytes))
+    → new ≡ empties_after mid (take count room) → Left told at bytes → Takes {E = SourceFault} at now room (Ok count) → old < new → IfSome told (λ all. all ≡ bytes ++ take count room)
+ended_more old mid new None at now bytes room count fits later ended is h takes less = tt
+ended_more old mid new (Some all) at now bytes room count fits later ended is h takes less =
+    let took : Takes {E = SourceFault} (Some h.0) now room (Ok count) = subst (λ (o : Option (List ℕ)). Takes {E = SourceFault} o now room (Ok count)) h.2 takes in
+    some_ended old mid new all bytes room h.0 now count fits later ended is h.1 took less
+
 -- A source after a take, by what it told before.
-pub taken_more : (old mid new : SourceState) (bytes room : List ℕ) (count : ℕ) → AreTakenSoFar old mid bytes → IsTake {E = SourceFault} mid new room (Ok count) → mid.faults ≤ new.faults
+pub taken_more : (old mid new : SourceState) (bytes room : List ℕ) (count : ℕ) → count ≤ length room → AreTakenSoFar old mid bytes → IsTake {E = SourceFault} mid new room (Ok count) → mid.faults ≤ new.faults
     → AreTakenSoFar old new (bytes ++ take count room)
-taken_more old mid new bytes room count h takes more = let was = h.later in record {
+taken_more old mid new bytes room count fits h takes more = let was = h.later in record {
   later = omega (arith, was, more);
+  ended = ended_more old.ends mid.ends new.ends old.told mid.told new.told bytes room count fits h.ends_later h.ended takes.2 h.told takes.0;
   ends_later = ends_on old.ends mid.ends new.ends (take count room) h.ends_later takes.2;
   given = takes.1 ∙ (ap (λ (g : List ℕ). g ++ take count room) h.given ∙ append_assoc old.given bytes (take count room));
   told = left_more old.told mid.told new.told bytes room count h.told takes.0;
@@ -58,6 +105,7 @@ pub taken_same : (fault : SourceFault) (old mid new : SourceState) (bytes room :
 taken_same fault old mid new bytes room h takes more = let was = h.later in record {
   later = omega (arith, was, more);
   ends_later = subst (λ (n : ℕ). old.ends ≤ n) (sym takes.2) h.ends_later;
+  ended = λ less. h.ended (subst (λ (n : ℕ). old.ends < n) takes.2 less);
   given = takes.1 ∙ h.given;
   told = left_same fault old.told mid.told new.told bytes room h.told takes.0;
 }

@@ -69,12 +69,12 @@ module _ {P : Type 0} (r : Rules P) (ports : List Port) (budget : ℕ) (cuts : C
     count_is = count_more far.bytes room count taken far.count_is fits;
     after = then_heard t wrote.answers wrote.come.0;
     text = text_then ports before mid now far.answers wrote.answers far.text wrote.text;
-    taken = taken_more old at new far.bytes room count far.taken takes later;
+    taken = taken_more old at new far.bytes room count fits far.taken takes later;
   }
 
   -- All that the source had, the first of which was heard.
-  pub all_heard : IsTake {E = SourceFault} at new room (Ok count) → AreTaken (all_of old.told (far.bytes ++ take count room)) (record { old = old; new = new })
-  all_heard takes = whole_taken old new (far.bytes ++ take count room) (taken_more old at new far.bytes room count far.taken takes later)
+  pub all_heard : count ≤ length room → IsTake {E = SourceFault} at new room (Ok count) → AreTaken (all_of old.told (far.bytes ++ take count room)) (record { old = old; new = new })
+  all_heard fits takes = whole_taken old new (far.bytes ++ take count room) (taken_more old at new far.bytes room count fits far.taken takes later)
 
   -- Events whose first bytes were heard.
   abbrev Cut : Events → Type 0
@@ -85,10 +85,10 @@ module _ {P : Type 0} (r : Rules P) (ports : List Port) (budget : ℕ) (cuts : C
       let next : List ℕ = take (most_events - length events.bytes) more in
       (cut.0 ++ next, take_both most_events events.bytes more ∙ (ap (λ (l : List ℕ). l ++ next) cut.1 ∙ append_assoc (take most_events (far.bytes ++ take count room)) cut.0 next))
 
-  all_cut : IsTake {E = SourceFault} at new room (Ok count) → Cut (all_of old.told (far.bytes ++ take count room))
-  all_cut takes =
+  all_cut : count ≤ length room → IsTake {E = SourceFault} at new room (Ok count) → Cut (all_of old.told (far.bytes ++ take count room))
+  all_cut fits takes =
       let bytes = far.bytes ++ take count room in
-      let found = rest_of old.told new.told bytes (taken_more old at new far.bytes room count far.taken takes later).told in
+      let found = rest_of old.told new.told bytes (taken_more old at new far.bytes room count fits far.taken takes later).told in
       (take (most_events - length bytes) found.0, ap (λ (l : List ℕ). take most_events l) found.1 ∙ take_both most_events bytes found.0)
 
   -- A piece with which it is over.
@@ -146,7 +146,7 @@ module _ {P : Type 0} (r : Rules P) (ports : List Port) (budget : ℕ) (cuts : C
     -- A piece with which hearing ends.
     module _ (fits : count ≤ length room) (few : taken + count ≤ most_events + 1) (takes : IsTake {E = SourceFault} at new room (Ok count)) where
       piece_few : (heard : Heard) → IsFew heard (length (far.bytes ++ take count room)) → TookFew (record { old = old; new = new }) heard
-      piece_few heard is = record { bytes = far.bytes ++ take count room; taken = taken_more old at new far.bytes room count far.taken takes later; few = is }
+      piece_few heard is = record { bytes = far.bytes ++ take count room; taken = taken_more old at new far.bytes room count fits far.taken takes later; few = is }
 
       within : length (far.bytes ++ take count room) ≤ most_events + 1
       within = let is = count_more far.bytes room count taken far.count_is fits in omega (arith, is, few)
@@ -155,8 +155,8 @@ module _ {P : Type 0} (r : Rules P) (ports : List Port) (budget : ℕ) (cuts : C
           → HeardFrom r ports budget w before now (record { old = old; new = new }) heard
       piece_from heard is come =
           let all : Events = all_of old.told (far.bytes ++ take count room) in
-          let cut = all_cut takes in
-          record { events = all; taken = all_heard takes; few = piece_few heard is; come = come all cut; whatever = λ here. inr (λ more. come (followed all more) (cut_more all more cut)) }
+          let cut = all_cut fits takes in
+          record { events = all; taken = all_heard fits takes; few = piece_few heard is; come = come all cut; whatever = λ here. inr (λ more. come (followed all more) (cut_more all more cut)) }
 
       pub piece_over : (t : Live P) (heard : Heard) → EndsPiece r ports budget mid now s (take (most_events - taken) (take count room)) t heard
           → HeardFrom r ports budget w before now (record { old = old; new = new }) heard
@@ -230,7 +230,7 @@ module _ {P : Type 0} (r : Rules P) (ports : List Port) (budget : ℕ) (w : Wiri
       close_from heard is h = record {
         events = record { bytes = far.bytes; failed = false };
         taken = ended_taken old at new far.bytes room far.taken takes later;
-        few = record { bytes = far.bytes ++ take 0 room; taken = taken_more old at new far.bytes room 0 far.taken takes later; few = is };
+        few = record { bytes = far.bytes ++ take 0 room; taken = taken_more old at new far.bytes room 0 (omega arith) far.taken takes later; few = is };
         come = close_heard heard h;
         whatever = λ here. inl (said_end old at new far.bytes room far.taken takes);
       }

@@ -31,7 +31,7 @@ none_left None = tt
 none_left (Some all) = (all, refl, refl)
 
 none_taken : (old : SourceState) → AreTakenSoFar old old []
-none_taken old = record { later = omega arith; ends_later = omega arith; given = sym (append-nil old.given); told = none_left old.told }
+none_taken old = record { later = omega arith; ends_later = omega arith; ended = λ less. absurd (omega (arith, less)); given = sym (append-nil old.given); told = none_left old.told }
 
 module _ {P : Type 0} (r : Rules P) (ports : List Port) (budget : ℕ) where
   pub far_none : (w : Wiring P) (before : Option (List ℕ)) (old : SourceState) (s : Live P) → s ≡ beginning w → SoFar r ports budget w before before old old s 0

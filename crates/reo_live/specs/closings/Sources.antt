@@ -55,10 +55,12 @@ pub record AreTaken (events : Events) (source : SourceChange) : Type 0 where
   pub told : IfSome source.old.told (λ bytes. (left : List ℕ) × (bytes ≡ taken ++ left)
       × (source.new.told ≡ Some left) × (events.failed ≡ false → events.bytes ≡ bytes))
 
--- These bytes were taken from a source that was so: it gave them, and no others.
+-- These bytes were taken from a source that was so: it gave them, and no others. Where it has said that it ends, they are all that
+-- it told.
 pub record AreTakenSoFar (old new : SourceState) (bytes : List ℕ) : Type 0 where
   pub later : old.faults ≤ new.faults
   pub ends_later : old.ends ≤ new.ends
+  pub ended : old.ends < new.ends → IfSome old.told (λ all. all ≡ bytes)
   pub given : new.given ≡ old.given ++ bytes
   pub told : IfSome old.told (λ all. (left : List ℕ) × (all ≡ bytes ++ left) × (new.told ≡ Some left))
 

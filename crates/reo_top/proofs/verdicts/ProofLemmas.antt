@@ -2,7 +2,6 @@
 use Rattle.std.proofs.Common.{ℕ, List, refl, arith}
 use Rattle.std.specs.Prelude.{◌≢◌, Result, Ok, Err}
 use Rattle.reo_proof_texts.specs.declared.refusal.ProofRefusal.{ProofRefusal}
-use Rattle.reo_proof_texts.specs.declared.refusal.ProofRefusal.TheVariants as refusals
 use Rattle.reo_proof_texts.specs.proof_verdict_texts.VerdictTexts.{proof_verdict_line}
 use Rattle.reo_command.specs.declared.command.Command.TheVariants.{VerifyProof}
 use Rattle.reo_command.specs.Claims.{Claimed}
