@@ -31,7 +31,6 @@ enum {
     REO_NO_PORT = 4,       /* no port has this name or this number */
     REO_WRONG_WAY = 5,     /* a write at an `out` port, or a take at an `in` port */
     REO_PENDING = 6,       /* an offer is pending at the port */
-    REO_OUTSIDE = 7,       /* the item is none that the port takes */
     REO_NO_ITEM = 8,       /* no item of the port's type has this text, or there is no such port */
     REO_NOT_PENDING = 9,   /* nothing is pending at the port, or there is no such port */
     REO_WIDE = 10,         /* at a joint of a part more than 256 items can stand */
@@ -72,8 +71,8 @@ uint32_t reo_port(struct reo_handle *handle, const uint8_t *name, size_t name_le
                   size_t *port);
 
 /* Offers to write, at a port, the item of its type that has this text, as traces write items: `3`,
- * `true`, `red`, `"a text"`, `(1,2)`, `unit`. REO_NO_ITEM, REO_WRONG_WAY, REO_PENDING, REO_OUTSIDE:
- * nothing changes. */
+ * `true`, `red`, `"a text"`, `(1,2)`, `unit`. REO_NO_ITEM, REO_WRONG_WAY, REO_PENDING: nothing
+ * changes. */
 uint32_t reo_write(struct reo_handle *handle, size_t port, const uint8_t *text,
                    size_t text_length);
 

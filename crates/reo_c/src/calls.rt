@@ -44,8 +44,7 @@ pub extern "C" fn reo_port(alloc: Global, handle: &mut Handle, name: &[u8], port
 }
 
 /// Offers to write at a port the item of its type that has this text. `NoItem`: there is none, or
-/// no such port; `WrongWay`, `Pending`, `Outside`: the port does not take the offer. Nothing
-/// changes then.
+/// no such port; `WrongWay`, `Pending`: the port does not take the offer. Nothing changes then.
 #[unsafe(no_mangle)]
 pub extern "C" fn reo_write(alloc: Global, handle: &mut Handle, port: usize, text: &[u8]) -> u32
     ensures { Answers (AtOpen (Writes port text.now)

@@ -2,3 +2,4 @@ pub mod Alone
 pub mod MadeLemmas
 pub mod Named
 pub mod OpenedLemmas
+pub mod PortsStay

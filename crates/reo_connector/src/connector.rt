@@ -3,7 +3,9 @@ ghost use Rattle.std.specs.Prelude.{◌≡◌, ◌≤◌, ◌^◌, length, bytes
 ghost use Rattle.std.specs.List.{position_from};
 ghost use Rattle.reo_net_base.specs.declared.port.Port.{Port as APort};
 ghost use Rattle.reo_script.specs.scripts.ScriptRules.{port_number};
+ghost use Rattle.reo_runs.specs.run_premises.PortsOf.{HasPorts};
 ghost use Rattle.reo_trace_reader.specs.texts.Lines.{AreTold};
+ghost use Rattle.reo_connector.specs.Held.{states_of};
 
 use reo_kinds::Kind;
 use reo_net_base::{Port, Ports};
@@ -21,8 +23,10 @@ pub struct Connector {
 }
 
 impl Model for Connector {
-    ghost use Rattle.std.specs.Prelude.{◌≡◌, ◌≤◌, ◌^◌, length};
+    ghost use Rattle.std.specs.Prelude.{◌≡◌, ◌≤◌, ◌^◌, length, map};
     ghost use Rattle.std.specs.Coded.{codes};
+    ghost use Rattle.reo_kinds.specs.Kinds.{port_state_of};
+    ghost use Rattle.reo_runs.specs.run_premises.PortsOf.{HasPorts};
     ghost use Rattle.reo_trace_reader.specs.texts.Lines.{AreTold};
     ghost use Rattle.reo_connector.specs.Held.{Held};
     ghost use Rattle.reo_values.specs.contracts.kindred.Kindred as kindred;
@@ -39,7 +43,8 @@ impl Model for Connector {
     } };
 
     ghost invariant = { λ c. (c.engine.rounds ≤ 2 ^ 63) × AreTold c.ports.list
-        × (c.engine.circuit.ports ≡ length c.ports.list) };
+        × (c.engine.circuit.ports ≡ length c.ports.list)
+        × HasPorts (map port_state_of c.engine.circuit.primitives) c.ports.list };
 }
 
 /// The place of the first port of a name.
@@ -80,11 +85,13 @@ impl Connector {
     }
 
     /// What holds of each connector: its ports have names, no two alike, and types that a program
-    /// may have; its circuit has as many ports.
+    /// may have; its circuit has as many ports, each with its way, and one where items go in
+    /// accepts exactly the items of its type.
     pub fn known(&self)
         ensures told { AreTold self.now.ports }
         ensures count { self.now.circuit.ports ≡ length self.now.ports }
         ensures few { self.now.rounds ≤ 2 ^ 63 }
+        ensures ports { HasPorts (states_of self.now) self.now.ports }
     {
         let _ = &self.ports;
     }

@@ -1,5 +1,6 @@
 pub mod AtLemmas
 pub mod Dropping
+pub mod FitsLemmas
 pub mod Numbers
 pub mod Places
 pub mod Rows

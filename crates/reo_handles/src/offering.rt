@@ -1,6 +1,6 @@
 //! Offers at ports.
 ghost use Rattle.reo_net_base.specs.declared.port.Offer.TheVariants.{Take as ToTake};
-ghost use Rattle.reo_handles.specs.Offers.{Offers, Withdraws, Writes};
+ghost use Rattle.reo_handles.specs.Offers.{Fits, Offers, Withdraws, Writes};
 ghost use Rattle.reo_handles.specs.Statuses.{AtOpen};
 
 use crate::handle::{Handle, put, taken};
@@ -12,18 +12,20 @@ use reo_rounds::OfferFault;
 use std::alloc::Global;
 
 impl Session {
-    /// Makes an offer pending at a port.
+    /// Makes an offer pending at a port: to take, or to write an item of the port's type.
     #[tactic(auto, unfolding(crate::specs::Offers::Offers))]
     fn offer(&mut self, port: usize, offer: Offer) -> CallStatus
+        requires fits { Fits self.old.connector port offer }
         ensures { Offers port offer self.old self.new result }
     {
+        self.connector.known();
         match self.connector.offer(port, offer) {
             Ok(()) => CallStatus::Done,
             Err(declined) => match declined.cause {
                 OfferFault::NoPort => CallStatus::NoPort,
                 OfferFault::WrongWay => CallStatus::WrongWay,
                 OfferFault::Pending => CallStatus::Pending,
-                OfferFault::ItemOutside => CallStatus::Outside,
+                OfferFault::ItemOutside => unreachable!(),
             },
         }
     }
@@ -53,8 +55,7 @@ impl Session {
 }
 
 /// Offers to write at a port the item of its type that has this text. `NoItem`: there is none, or
-/// no such port; `WrongWay`, `Pending`, `Outside`: the port does not take the offer. Nothing
-/// changes then.
+/// no such port; `WrongWay`, `Pending`: the port does not take the offer. Nothing changes then.
 pub fn write_open(alloc: Global, handle: &mut Handle, port: usize, text: &[u8]) -> CallStatus
     ensures { AtOpen (Writes port text.now)
         handle.old.place.session handle.new.place.session result }

@@ -19,8 +19,6 @@ pub enum CallStatus {
     WrongWay,
     /// An offer is pending at the port.
     Pending,
-    /// The item is none that the port takes.
-    Outside,
     /// No item of the port's type has this text, or there is no such port.
     NoItem,
     /// Nothing is pending at the port, or there is no such port.
@@ -52,7 +50,6 @@ impl CallStatus {
             CallStatus::NoPort => 4,
             CallStatus::WrongWay => 5,
             CallStatus::Pending => 6,
-            CallStatus::Outside => 7,
             CallStatus::NoItem => 8,
             CallStatus::NotPending => 9,
             CallStatus::Wide => 10,

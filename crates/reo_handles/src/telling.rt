@@ -18,7 +18,6 @@ fn words(number: u32) -> &'static [u8]
         4 => b"no port",
         5 => b"wrong way",
         6 => b"pending",
-        7 => b"outside",
         8 => b"no item",
         9 => b"not pending",
         10 => b"wide",
