@@ -76,7 +76,8 @@ impl<R: rt::Files> Files for DiskFiles<'_, R> {
         ensures counted { disk_fetches self.new ≡ fetches_after 1 (disk_fetches self.old) }
         ensures told_same { disk_told self.new ≡ disk_told self.old }
         ensures opened { Opens (disk_opened self.old) (disk_opened self.new) name.now }
-        ensures read { WasRead R.File.remaining name.now (disk_file self.new) limit room.new result }
+        ensures read { let file = disk_file self.new in
+            WasRead R.File.remaining name.now file limit room.new result }
     {
         self.fetches = self.fetches.wrapping_add(1);
         let Ok(path) = str::from_utf8(name) else {
