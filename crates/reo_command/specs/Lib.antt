@@ -9,6 +9,7 @@ pub mod Outside
 pub mod ReadSteps
 pub mod Readings
 pub mod Refusals
+pub mod Requests
 pub mod Roles
 pub mod Settings
 pub mod States

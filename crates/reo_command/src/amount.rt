@@ -55,7 +55,7 @@ pub(crate) fn are_amounts(amounts: &[Amount], words: &[Bytes]) -> bool
 }
 
 /// The size of the work that is made, by the words: 1 to 256.
-pub fn size_of(words: &[Bytes]) -> u32
+pub(crate) fn size_of(words: &[Bytes]) -> u32
     ensures size { result ≡ size_of words.now }
     ensures some { 1 ≤ result }
     ensures few { result ≤ 256 }

@@ -1,6 +1,6 @@
 //! The commands, and their words.
 ghost use Rattle.std.specs.Prelude.{◌≡◌, drop, find, length};
-ghost use Rattle.reo_command.specs.Commands.{command_of, command_word, none_empty, are_names, are_numbers, follows, fits, roles_of, amounts_of, settings_of, behind_names};
+ghost use Rattle.reo_command.specs.Commands.{command_of, command_word, none_empty, are_names, are_numbers, follows, fits, roles_of, amounts_of, settings_of, names_of, behind_names};
 
 use crate::amount::{Amount, are_amounts};
 use crate::setting::{Setting, are_options};
@@ -170,6 +170,14 @@ pub fn command_of(words: &[Bytes]) -> Option<Command>
     ensures { result ≡ command_of words.now }
 {
     first_that_fits(words, &COMMANDS)
+}
+
+/// The names of the files of a command, in words that have its form.
+pub(crate) fn names_of(command: Command, words: &[Bytes]) -> &[Bytes]
+    ensures { result.now ≡ names_of command words.now }
+{
+    let others = words.get(1..).unwrap_or(&[]);
+    others.get(..command.files()).unwrap_or(others)
 }
 
 /// The words behind the names, in words that have the form of a command.

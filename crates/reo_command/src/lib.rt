@@ -12,6 +12,7 @@ mod number;
 mod outside;
 mod reading;
 mod refusal;
+mod request;
 mod role;
 mod setting;
 mod status;
@@ -19,14 +20,15 @@ mod stop;
 mod texts;
 pub mod top_base;
 
-pub use amount::{Amount, size_of};
+pub use amount::Amount;
 pub use claim::{Claim, ProofClaim, read_claim, read_proof};
 pub use command::{Command, command_of};
-pub use limit::{budget_of, limits_of, usual_limits};
+pub use limit::usual_limits;
 pub use made::make_run;
 pub use outside::{flushed, words_of};
 pub use reading::{CircuitAndScript, read_flat, read_program, read_run};
 pub use refusal::{Refusal, append_refusal};
+pub use request::{Request, request_of};
 pub use role::Role;
 pub use setting::Setting;
 pub use status::{

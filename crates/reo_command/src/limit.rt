@@ -28,7 +28,7 @@ fn number_or_absent(command: Command, words: &[Bytes], place: usize, setting: Se
 }
 
 /// How far the run of these words may go.
-pub fn limits_of(words: &[Bytes]) -> Limits
+pub(crate) fn limits_of(words: &[Bytes]) -> Limits
     ensures limits { result ≡ limits_of words.now }
     ensures some_budget { 1 ≤ result.budget }
     ensures small_budget { result.budget ≤ 10 ^ 9 }
@@ -42,7 +42,7 @@ pub fn limits_of(words: &[Bytes]) -> Limits
 }
 
 /// The budget of the rounds that these words hear.
-pub fn budget_of(words: &[Bytes]) -> u64
+pub(crate) fn budget_of(words: &[Bytes]) -> u64
     ensures budget { result ≡ budget_of words.now }
     ensures some { 1 ≤ result }
     ensures small { result ≤ 10 ^ 9 }

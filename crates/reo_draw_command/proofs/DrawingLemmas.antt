@@ -66,6 +66,9 @@ module _ (words seen : List (List ℕ)) (same : seen ≡ words) where
   pub none_seen : (o : Option Drawing) → o ≡ drawing_of seen → o ≡ None → drawing_of words ≡ None
   none_seen o is none = ap drawing_of (sym same) ∙ sym is ∙ none
 
+  pub word_seen : (place : ℕ) (word : List ℕ) → word ≡ get_or seen place [] → get_or words place [] ≡ word
+  word_seen place word is = sym (is ∙ ap (λ (ws : List (List ℕ)). get_or ws place []) same)
+
 module _ (words : List (List ℕ)) (files : Change FilesState) (sink : Change SinkState) (code : ℕ) where
   pub answered_as : (drawing : Drawing) (names : List (List ℕ)) → drawing_of words ≡ Some drawing → names_of drawing words ≡ names
       → IsAnswered false (owed_of drawing words) (roles_of drawing) names files sink code → Answered words files sink code

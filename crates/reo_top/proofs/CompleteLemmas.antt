@@ -10,7 +10,7 @@ use Rattle.reo_top.specs.Answers.{Answered}
 use Rattle.reo_command.specs.top_base.Answered.{IsAnswered}
 use Rattle.reo_command.specs.top_base.Cases.{IsFailure, IsFair}
 use Rattle.reo_live.specs.closings.Sources.{SourceChange, Events}
-use Rattle.reo_command.specs.Commands.{command_of, is_free, roles_of}
+use Rattle.reo_command.specs.Commands.{is_free, roles_of}
 use Rattle.reo_top.specs.Complete.{NothingFailed, IsWhole, Complete, ending_statuses}
 use Rattle.reo_command.specs.Fetched.{Content, has_gone, missed, AreFetched}
 use Rattle.reo_top.specs.Headline.{Accepted, GaveAccepted, IsTraced, Headline}
@@ -21,7 +21,6 @@ use Rattle.reo_command.specs.States.{SinkState, FilesState, Change}
 use Rattle.reo_command.specs.Statuses.{IsAmong}
 use Rattle.reo_top.specs.runs.Traces.{ending_status}
 use Rattle.reo_command.proofs.FetchLemmas.{is_noted}
-use Rattle.reo_command.proofs.FetchLemmas.{if_any}
 use Rattle.reo_top.proofs.TopLemmas.{answered_with}
 
 same_rest : {A : Type 0} (x : A) (xs ys : List A) → x ∷ xs ≡ x ∷ ys → xs ≡ ys
@@ -82,11 +81,3 @@ module _ (words : List (List ℕ)) (files : Change FilesState) (sink : Change Si
     -- From what the call has come to.
     pub complete : Complete words files sink code
     complete = record { told = told_as files.old.told refl; given = given_as }
-
--- Of other words it says nothing.
-pub complete_else : (words : List (List ℕ)) (files : Change FilesState) (sink : Change SinkState) (code : ℕ) → (command_of words ≡ Some Run → ⊥) → Complete words files sink code
-complete_else words files sink code other =
-    record {
-      told = if_any files.old.told (λ folder. (r : Runnable) → Accepted words folder r → NothingFailed files sink → (code ≡ 10) ⊎ IsWhole words r sink code) (λ folder r a nothing. absurd (other a.run));
-      given = λ r a nothing. absurd (other a.run);
-    }

@@ -25,7 +25,7 @@ use Rattle.reo_top.specs.Answers.{Answered}
 use Rattle.reo_command.specs.top_base.Answered.{IsAnswered}
 use Rattle.reo_command.specs.top_base.Cases.{Cases, IsFailure}
 use Rattle.reo_live.specs.closings.Sources.{SourceChange}
-use Rattle.reo_command.specs.Commands.{command_of, is_free, roles_of}
+use Rattle.reo_command.specs.Commands.{is_free, roles_of}
 use Rattle.reo_command.specs.Fetched.{Content, gone, long, text, unknown, content_of, texts_given, AreWithin, AreTold}
 use Rattle.reo_top.specs.Headline.{Accepted, GaveAccepted, IsTraced, Headline}
 use Rattle.reo_command.specs.Limits.{limits_of}
@@ -37,7 +37,6 @@ use Rattle.reo_command.specs.States.{SinkState, FilesState, Change}
 use Rattle.reo_command.specs.Stops.{stop_status}
 use Rattle.reo_command.proofs.FlatLemmas.{circuit_apart}
 use Rattle.reo_top.proofs.runs.RunLemmas.{start_for}
-use Rattle.reo_command.proofs.FetchLemmas.{if_any}
 use Rattle.reo_top.proofs.TopLemmas.{answered_with}
 use Rattle.reo_command.proofs.WorkLemmas.{run_reading}
 
@@ -232,11 +231,3 @@ module _ (justified : RunsAreJustified kind_rules) (made : CircuitsAreMade) (pla
 
   pub headline : Headline words files sink code
   headline = record { told = told_as files.old.told refl; given = given_as }
-
--- Of other words it says nothing.
-pub headline_else : (words : List (List ℕ)) (files : Change FilesState) (sink : Change SinkState) (code : ℕ) → (command_of words ≡ Some Run → ⊥) → Headline words files sink code
-headline_else words files sink code other =
-    record {
-      told = if_any files.old.told (λ folder. (r : Runnable) → Accepted words folder r → (IsFailure code → ⊥) → IsTraced (limits_of words) r sink code) (λ folder r a fine. absurd (other a.run));
-      given = λ r a fine. absurd (other a.run);
-    }

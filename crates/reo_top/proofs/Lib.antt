@@ -1,5 +1,6 @@
 pub mod AnswerTexts
 pub mod ClosingStatuses
+pub mod ComeLemmas
 pub mod CompleteLemmas
 pub mod HeadlineLemmas
 pub mod HeardLemmas

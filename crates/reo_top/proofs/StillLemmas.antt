@@ -25,10 +25,10 @@ use Rattle.reo_top.proofs.TopLemmas.{answered_as, answered_at, bench_answered, n
 use Rattle.reo_top.proofs.UntakenLemmas.{none_taken, none_taken_few}
 
 module _ {R : Type 0} (told : R → Option (List ℕ)) (given : R → List ℕ) (ends faults : R → ℕ) (source : R) (words : List (List ℕ)) (files : Change FilesState) (sink : Change SinkState) (code : ℕ) where
-  abbrev still : SourceChange
+  abbrev pub still : SourceChange
   still = source_change told given ends faults source source
 
-  abbrev none : Events
+  abbrev pub none : Events
   none = untaken (state_of told given ends faults source)
 
   -- For no event, and for whatever may follow.

@@ -1,4 +1,5 @@
 pub mod Answers
+pub mod Comes
 pub mod Complete
 pub mod Done
 pub mod Headline

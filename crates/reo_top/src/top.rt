@@ -1,6 +1,6 @@
 //! The top call.
-ghost use Rattle.std.specs.Prelude.{◌≡◌, [], slice_index_or};
 ghost use Rattle.reo_top.specs.Answers.{Answered, IsHonest, KeepsInputs};
+ghost use Rattle.reo_top.specs.Comes.{ComesTo};
 ghost use Rattle.reo_top.specs.Complete.{Complete};
 ghost use Rattle.reo_top.specs.Headline.{Headline};
 ghost use Rattle.reo_live.specs.closings.Sources.{source_change};
@@ -14,9 +14,7 @@ use crate::runs::{prove_circuit, run_circuit};
 use crate::tables::list_circuit;
 use crate::verdicts::{verify_claim, verify_proof_claim};
 use reo_circuit_texts::circuit_names_are_plain;
-use reo_command::{
-    Command, Status, WORDS_REFUSED, answer, budget_of, command_of, limits_of, size_of,
-};
+use reo_command::{Request, Status, WORDS_REFUSED, answer, request_of};
 use reo_flat::circuits_are_made;
 use reo_io::{Files, Sink, Source};
 use reo_kinds::Kind;
@@ -24,13 +22,48 @@ use reo_runs::runs_are_justified;
 use reo_values::{Bytes, List};
 use std::alloc::Global;
 
-/// One of the words, or the empty word.
-fn word_at(words: &[Bytes], place: usize) -> &[u8]
-    ensures { result.now ≡ slice_index_or words.now place [] }
+/// What words come to: what they ask of a command is done, or they are refused.
+fn come_to<F: Files, R: Source, S: Sink>(
+    alloc: Global,
+    words: &[Bytes],
+    files: &mut F,
+    source: &mut R,
+    out: &mut S,
+) -> Status
+    ensures { let files = files_change F.told F.failed F.given F.long F.fetches
+        files.old files.new in
+        let heard = source_change R.told R.given R.ends R.faults source.old source.new in
+        let sink = sink_change S.told S.faults out.old out.new in
+        ComesTo words.now files heard source.old source.new sink result.code }
 {
-    match words.get(place) {
-        Some(word) => word.as_slice(),
-        None => b"",
+    let Some(request) = request_of(words) else {
+        return answer(b"words refused\n", WORDS_REFUSED, out);
+    };
+    match request {
+        Request::Run {
+            circuit,
+            script,
+            limits,
+        } => run_circuit(alloc, circuit, script, limits, files, out),
+        Request::Check { circuit } => check_circuit(alloc, circuit, files, out),
+        Request::Print { circuit } => print_circuit(alloc, circuit, files, out),
+        Request::Upgrade { circuit } => upgrade_circuit(alloc, circuit, files, out),
+        Request::Verify {
+            circuit,
+            script,
+            trace,
+        } => verify_claim(alloc, circuit, script, trace, files, out),
+        Request::Bench { size } => measure_work(alloc, size, out),
+        Request::Live { circuit, budget } => {
+            hear_events(alloc, circuit, budget, files, source, out)
+        }
+        Request::Tables { circuit } => list_circuit(alloc, circuit, files, out),
+        Request::Prove { circuit, script } => prove_circuit(alloc, circuit, script, files, out),
+        Request::VerifyProof {
+            circuit,
+            script,
+            proof,
+        } => verify_proof_claim(alloc, circuit, script, proof, files, out),
     }
 }
 
@@ -69,42 +102,5 @@ pub fn reo<F: Files, R: Source, S: Sink>(
     circuits_are_made();
     circuit_names_are_plain();
     runs_are_justified::<Kind>();
-    let words = words.as_slice();
-    match command_of(words) {
-        Some(Command::Run) => {
-            let limits = limits_of(words);
-            run_circuit(
-                alloc,
-                word_at(words, 1),
-                word_at(words, 2),
-                limits,
-                files,
-                out,
-            )
-        }
-        Some(Command::Check) => check_circuit(alloc, word_at(words, 1), files, out),
-        Some(Command::Print) => print_circuit(alloc, word_at(words, 1), files, out),
-        Some(Command::Upgrade) => upgrade_circuit(alloc, word_at(words, 1), files, out),
-        Some(Command::Verify) => {
-            let circuit = word_at(words, 1);
-            let script = word_at(words, 2);
-            verify_claim(alloc, circuit, script, word_at(words, 3), files, out)
-        }
-        Some(Command::Bench) => measure_work(alloc, size_of(words), out),
-        Some(Command::Live) => {
-            let budget = budget_of(words);
-            hear_events(alloc, word_at(words, 1), budget, files, source, out)
-        }
-        Some(Command::Tables) => list_circuit(alloc, word_at(words, 1), files, out),
-        Some(Command::Prove) => {
-            let circuit = word_at(words, 1);
-            prove_circuit(alloc, circuit, word_at(words, 2), files, out)
-        }
-        Some(Command::VerifyProof) => {
-            let circuit = word_at(words, 1);
-            let script = word_at(words, 2);
-            verify_proof_claim(alloc, circuit, script, word_at(words, 3), files, out)
-        }
-        None => answer(b"words refused\n", WORDS_REFUSED, out),
-    }
+    come_to(alloc, words.as_slice(), files, source, out)
 }

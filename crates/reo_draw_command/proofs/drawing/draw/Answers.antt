@@ -1,9 +1,8 @@
 use Rattle.std.proofs.Common.{◌≡◌, ◌∙◌, ℕ, List, [], ◌∷◌, get_or, refl}
 use Rattle.std.specs.Prelude.{Some}
-use Rattle.reo_command.proofs.WordLemmas.{word_seen}
 use Rattle.reo_draw_command.specs.declared.words.Drawing.TheVariants.{Circuit, Table, Round}
 use Rattle.reo_draw_command.specs.Words.{drawing_of, names_of}
-use Rattle.reo_draw_command.proofs.DrawingLemmas.{drawing_seen, none_seen, circuit_names, table_names, round_names, answered_as, round_answered, status_as, answered_none, status_none}
+use Rattle.reo_draw_command.proofs.DrawingLemmas.{drawing_seen, none_seen, word_seen, circuit_names, table_names, round_names, answered_as, round_answered, status_as, answered_none, status_none}
 use Rattle.reo_draw_command.proofs.drawing.draw.Goals as goal
 
 pub returns-in-Some-Circuit-clause-answer : goal.returns-in-Some-Circuit-clause-answer
