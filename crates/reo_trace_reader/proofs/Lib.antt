@@ -10,4 +10,5 @@ pub mod PortTexts
 pub mod RoundTexts
 pub mod RowTexts
 pub mod Steps
+pub mod Streams
 pub mod TraceTexts
