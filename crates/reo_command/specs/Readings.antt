@@ -17,7 +17,7 @@ use Rattle.reo_command.specs.declared.role.Role.TheVariants as roles
 use Rattle.reo_command.specs.declared.refusal.Refusal.{Refusal}
 use Rattle.reo_command.specs.declared.stop.Stop.{Stop}
 use Rattle.reo_command.specs.declared.stop.Stop.TheVariants.{Refused, NoMemory}
-use Rattle.reo_command.specs.Fetched.{Content, gone, long, text, unknown, has_gone, AreFetched, AreShort}
+use Rattle.reo_command.specs.Fetched.{Content, text, has_gone, AreFetched, AreShort}
 use Rattle.reo_command.specs.Refusals.{RefusesProgram, RefusesExpansion, RefusesCircuit, RefusesScript}
 use Rattle.reo_command.specs.States.{FilesState, Change}
 use Rattle.reo_command.specs.Stops.{FileStops}
