@@ -18,7 +18,7 @@ use crate::stop::Stop;
 use crate::texts::trace_of;
 use reo_io::Files;
 use reo_net_base::Ports;
-use reo_trace_reader::Trace;
+use reo_trace_reader::TraceText;
 use reo_values::Bytes;
 use std::alloc::Global;
 
@@ -28,21 +28,22 @@ fn read_lines<F: Files>(
     ports: &Ports,
     name: &[u8],
     files: &mut F,
-) -> Result<Trace, Stop>
+) -> Result<TraceText, Stop>
     requires { AreTold ports.now.list }
     ensures read { IsTraceRead ports.now.list (name.now ∷ [])
         (files_change F.told F.failed F.given F.long F.fetches files.old files.new) result }
     ensures text { IfOk result (HasText ports.now.list) }
 {
     let text = fetch(alloc, Role::Trace, name, files)?;
-    trace_of(alloc, text.as_slice(), ports)
+    trace_of(alloc, text, ports)
 }
 
-/// A circuit, a script for its ports, and a trace that is said to be that of their run.
+/// A circuit, a script for its ports, and a trace that is said to be that of their run, which is held
+/// as its text.
 #[derive(Drop)]
 pub struct Claim {
     pub work: CircuitAndScript,
-    pub trace: Trace,
+    pub trace: TraceText,
 }
 
 /// The circuit, the script and the trace that three files say, or what stops the command. The trace

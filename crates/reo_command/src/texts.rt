@@ -30,8 +30,9 @@ use reo_net_base::Ports;
 use reo_parser::{ParseFault, parse_any};
 use reo_runs::{flat_ports_fit, ports_are_told, scripts_fit};
 use reo_script::{Script, ScriptFault, read_script};
-use reo_trace_reader::{Trace, TraceFault, read_trace};
+use reo_trace_reader::{TraceFault, TraceText};
 use reo_trees::{AnyProgram, Program, ProgramTwo};
+use reo_values::Bytes;
 use std::alloc::Global;
 
 /// What stops a command whose circuit text says no program.
@@ -161,13 +162,14 @@ fn trace_stop(alloc: Global, fault: TraceFault) -> Stop
 }
 
 /// The trace that a text is for the ports of a circuit, or what stops the command.
-pub(crate) fn trace_of(alloc: Global, text: &[u8], ports: &Ports) -> Result<Trace, Stop>
+pub(crate) fn trace_of(alloc: Global, text: Bytes, ports: &Ports) -> Result<TraceText, Stop>
     requires { AreTold ports.now.list }
     ensures read { IsTextRead (IsTraceText ports.now.list) (TraceStops ports.now.list)
-        text.now result }
+        text result }
     ensures text { IfOk result (HasText ports.now.list) }
 {
-    match read_trace(alloc, text, ports) {
+    let _length = text.as_slice().len();
+    match TraceText::read(alloc, text, ports) {
         Ok(trace) => Ok(trace),
         Err(fault) => Err(trace_stop(alloc, fault)),
     }

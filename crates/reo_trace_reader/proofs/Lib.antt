@@ -10,5 +10,6 @@ pub mod PortTexts
 pub mod RoundTexts
 pub mod RowTexts
 pub mod Steps
+pub mod Streams
 pub mod TraceTexts
 pub mod Digits

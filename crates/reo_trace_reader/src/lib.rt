@@ -3,12 +3,16 @@
 #![tactic(auto)]
 
 mod cells;
+mod given;
 mod item;
 mod lines;
 mod moves;
 mod number;
+mod ports;
 mod reading;
 pub mod texts;
+mod trace_lines;
+mod trace_text;
 
 pub use reading::{read_line, read_trace};
 pub use reo_trace::{
@@ -18,3 +22,5 @@ pub use texts::{
     LineFault, Trace, TraceFault, TraceLine, one_line_answer, one_trace_answer, one_trace_of_text,
     one_wrong_line, trace_has_no_wrong_line,
 };
+pub use trace_lines::TraceLines;
+pub use trace_text::TraceText;

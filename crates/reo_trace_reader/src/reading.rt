@@ -48,7 +48,7 @@ fn numbered_round(
 
 /// The line of the round of this number, with its line feed, or None where it is not next: then
 /// nothing is taken.
-fn next_round<'a>(
+pub(crate) fn next_round<'a>(
     alloc: Global,
     reader: &mut Unread<'a>,
     ports: &Ports,
@@ -83,7 +83,7 @@ fn ended(reader: &mut Unread) -> Result<Ending, LineFault>
 }
 
 /// The ending that a text is, with its line feed.
-fn last_line(text: &[u8]) -> Option<Ending>
+pub(crate) fn last_line(text: &[u8]) -> Option<Ending>
     ensures { MatchOption result (NoEnding text.now)
         (λ ending. IsEnding ending × (text.now ≡ ending_text ending)) }
 {

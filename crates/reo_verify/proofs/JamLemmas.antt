@@ -52,15 +52,12 @@ jammed_cons line lines = jams_append line.entries (entries_in lines)
 jammed_append : (lines others : List RoundLine) → jammed (lines ++ others) ≡ jammed lines + jammed others
 jammed_append lines others = ap (λ (es : List Entry). jams_of es) (flat_map-append (λ (line : RoundLine). line.entries) lines others) ∙ jams_append (entries_in lines) (entries_in others)
 
-pub jammed_cut : (lines : List RoundLine) (i : ℕ) (line : RoundLine) → slice_get lines i ≡ Some line → jammed lines ≡ jammed (take i lines) + (jams_of line.entries + jammed (drop (suc i) lines))
-jammed_cut lines i line is =
-    ap (λ (ls : List RoundLine). jammed ls) (cut_at lines i line is) ∙ jammed_append (take i lines) (line ∷ drop (suc i) lines) ∙ ap (λ n. jammed (take i lines) + n) (jammed_cons line (drop (suc i) lines))
+-- With those of one line behind others.
+pub jammed_behind : (done : List RoundLine) (line : RoundLine) (left : List RoundLine) → jammed (done ++ line ∷ left) ≡ jammed done + (jams_of line.entries + jammed left)
+jammed_behind done line left = jammed_append done (line ∷ left) ∙ ap (λ n. jammed done + n) (jammed_cons line left)
 
-pub jammed_more : (lines : List RoundLine) (i : ℕ) (line : RoundLine) → slice_get lines i ≡ Some line → jammed (take (suc i) lines) ≡ jammed (take i lines) + jams_of line.entries
-jammed_more lines i line is =
-    let all : jammed (take (suc i) lines) ≡ jammed (take i lines) + jammed (line ∷ []) = ap (λ (ls : List RoundLine). jammed ls) (take_one_more lines i line is) ∙ jammed_append (take i lines) (line ∷ []) in
-    let one : jammed (line ∷ []) ≡ jams_of line.entries + jammed [] = jammed_cons line [] in
-    let none : jammed [] ≡ 0 = refl in omega (arith, all, one, none)
+pub jammed_more : (done : List RoundLine) (line : RoundLine) → jammed (done ++ line ∷ []) ≡ jammed done + jams_of line.entries
+jammed_more done line = let none : jammed [] ≡ 0 = refl in omega (arith, jammed_behind done line [], none)
 
 -- Each such cell has a letter in the text.
 cell_le : (c : Cell) → cond (is_jam c) 1 0 ≤ length (cell_text c)

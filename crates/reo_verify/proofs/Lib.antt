@@ -1,4 +1,4 @@
-mod JamLemmas
+pub mod JamLemmas
 pub mod SoFar
 pub mod ReplayLemmas
 pub mod VerdictLemmas

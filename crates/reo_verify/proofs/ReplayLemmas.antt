@@ -1,7 +1,6 @@
 -- Rounds of a replay, one after another.
-use Rattle.std.proofs.Common.{◌≡◌, ◌≢◌, ◌∙◌, inl, inr, ℕ, zero, suc, ◌+◌, ◌≤◌, List, [], ◌∷◌, ◌++◌, length, take, drop, refl, sym, ap, subst, arith}
-use Rattle.std.specs.Prelude.{Option, Some, None, slice_get}
-use Rattle.reo_values.proofs.Sequences.{cut_at, take_all}
+use Rattle.std.proofs.Common.{◌≡◌, ◌≢◌, ◌∙◌, inl, inr, ℕ, zero, suc, ◌+◌, ◌<◌, ◌≤◌, ◌^◌, List, [], ◌∷◌, ◌++◌, length, refl, sym, ap, subst, arith}
+use Rattle.std.specs.Prelude.{Option, None}
 use Rattle.reo_net_base.specs.declared.port.Port.{Port}
 use Rattle.reo_net_base.specs.Colouring.{IsColouring}
 use Rattle.reo_net_base.specs.Moves.{moves_of}
@@ -25,12 +24,13 @@ use Rattle.reo_runs.specs.declared.verdicts.verdict.Refusal.{Refusal}
 use Rattle.reo_runs.specs.declared.verdicts.verdict.Refusal.TheVariants as refusals
 use Rattle.reo_runs.specs.verdicts.Replays.{colourings}
 use Rattle.reo_runs.specs.verdicts.Wrongs.{IsWrongRound}
+use Rattle.reo_runs.specs.verdicts.Said.{jammed}
+use Rattle.reo_verify.specs.declared.outcome.Outcome.{Outcome}
 use Rattle.reo_verify.specs.declared.judging.judging.Stop.{Stop}
 use Rattle.reo_verify.specs.judging.Judged.{IsPlanShown}
 use Rattle.reo_verify.specs.judging.Refused.{IsRefusalBy}
 use Rattle.reo_verify.specs.Replayed.{IsReplayed, IsNoRound, AreReplayed, IsCutOff}
 use Rattle.reo_verify.proofs.judging.RefusalLemmas.{wrong_by}
-use Rattle.reo_verify.proofs.judging.Cuts.{take_one_more, taken}
 use Rattle.reo_verify.proofs.SoFar.{SoFar}
 
 -- What a line shows, and was done, is a round.
@@ -58,16 +58,19 @@ round_replayed r turn a w v p line players over same number plan players_are but
       players_are = refl;
     }
 
--- The line at a place has the number of its round.
-pub line_at : (ports : List Port) (number i : ℕ) (lines : List RoundLine) (line : RoundLine) → AreLines ports number lines → slice_get lines i ≡ Some line → IsLine ports (number + i) line
-line_at ports number i [] line are is = absurd (cc)
-line_at ports number zero (x ∷ xs) line are is =
-    let here : x ≡ line = cc in
-    let none : number ≡ number + zero = omega arith in
-    subst (λ n. IsLine ports n line) none (subst (IsLine ports number) here are.0)
-line_at ports number (suc i) (x ∷ xs) line are is =
-    let next : number + 1 + i ≡ number + suc i = omega arith in
-    subst (λ n. IsLine ports n line) next (line_at ports (number + 1) i xs line are.1 is)
+-- A line behind others has the number of its round.
+pub line_behind : (ports : List Port) (number : ℕ) (done : List RoundLine) (line : RoundLine) (left : List RoundLine) → AreLines ports number (done ++ line ∷ left) → IsLine ports (number + length done) line
+line_behind ports number [] line left are = let none : number ≡ number + zero = omega arith in subst (λ n. IsLine ports n line) none are.0
+line_behind ports number (x ∷ xs) line left are =
+    let next : number + 1 + length xs ≡ number + suc (length xs) = omega arith in
+    subst (λ n. IsLine ports n line) next (line_behind ports (number + 1) xs line left are.1)
+
+-- So there are few lines.
+pub few_lines : (ports : List Port) (number : ℕ) (lines : List RoundLine) → number ≤ 2 ^ 63 → AreLines ports number lines → number + length lines ≤ 2 ^ 63
+few_lines ports number [] le are = omega arith
+few_lines ports number (x ∷ xs) le are =
+    let small : number < 2 ^ 63 = are.0.small in
+    let more = few_lines ports (number + 1) xs (omega (arith, small)) are.1 in omega (arith, more)
 
 -- No line was replayed yet.
 pub so_far_none : {P : Type 0} (r : Rules P) (w : Wiring P) (players : List Player) (over : Option Ending) → IsButForOffers r w w
@@ -75,18 +78,20 @@ pub so_far_none : {P : Type 0} (r : Rules P) (w : Wiring P) (players : List Play
 so_far_none r w players over left = record { circuit = w; rounds = refl; left = left }
 
 -- All lines were replayed.
-pub all_replayed : {P : Type 0} (r : Rules P) (start : Place P) (lines : List RoundLine) (i : ℕ) (w : Wiring P) (players : List Player) (over : Option Ending)
-    → length lines ≤ i → SoFar r start (take i lines) w players over → AreReplayed r start lines over
-all_replayed r start lines i w players over le so_far =
-    let last : Place _ = record { state = record { circuit = so_far.circuit; players = players }; over = over } in
+pub all_replayed : {P : Type 0} (r : Rules P) (start : Place P) (lines done : List RoundLine) (w : Wiring P) (players : List Player) (outcome : Outcome)
+    → lines ≡ done → SoFar r start done w players outcome.over → outcome.rounds ≡ length done → outcome.jammed ≡ jammed done → AreReplayed r start lines outcome
+all_replayed r start lines done w players outcome same so_far count jams =
+    let last : Place _ = record { state = record { circuit = so_far.circuit; players = players }; over = outcome.over } in
     record {
       last = last;
-      rounds = subst (λ (ls : List RoundLine). Leads colourings r 1 start ls last) (take_all lines i le) so_far.rounds;
+      rounds = subst (λ (ls : List RoundLine). Leads colourings r 1 start ls last) (sym same) so_far.rounds;
       over_is = refl;
+      count = count ∙ ap (λ (ls : List RoundLine). length ls) (sym same);
+      jams = jams ∙ ap (λ (ls : List RoundLine). jammed ls) (sym same);
     }
 
 module _ {P : Type 0} (r : Rules P) (nodes : List (List ℕ)) (homes : List ℕ) where
-  module _ (start : Place P) (lines : List RoundLine) (i : ℕ) (line : RoundLine) (got : slice_get lines i ≡ Some line) (w : Wiring P) (players : List Player) (over : Option Ending) (so_far : SoFar r start (take i lines) w players over) where
+  module _ (start : Place P) (lines done : List RoundLine) (line : RoundLine) (left : List RoundLine) (cut : lines ≡ done ++ line ∷ left) (w : Wiring P) (players : List Player) (over : Option Ending) (so_far : SoFar r start done w players over) where
     abbrev pub now_at : State P
     now_at = record { circuit = so_far.circuit; players = players }
 
@@ -94,45 +99,43 @@ module _ {P : Type 0} (r : Rules P) (nodes : List (List ℕ)) (homes : List ℕ)
     place_now = record { state = now_at; over = over }
 
     -- The lines with one more.
-    pub so_far_more : (turn : ℕ) (v : Wiring P) (others : List Player) (now : Option Ending) → turn ≡ i + 1 → over ≡ None → IsReplayed r turn now_at line v others now → SoFar r start (take (suc i) lines) v others now
+    pub so_far_more : (turn : ℕ) (v : Wiring P) (others : List Player) (now : Option Ending) → turn ≡ length done + 1 → over ≡ None → IsReplayed r turn now_at line v others now → SoFar r start (done ++ line ∷ []) v others now
     so_far_more turn v others now turn_is on more = record {
       circuit = more.next.circuit;
       rounds =
           let here : place_after turn line now_at more.next ≡ record { state = record { circuit = more.next.circuit; players = others }; over = now }
           = λ k. record { state = record { circuit = more.next.circuit; players = sym more.players_are k }; over = sym more.over_is k } in
-          let leads : Leads colourings r 1 start (take i lines ++ line ∷ []) (place_after turn line now_at more.next) =
-          leads_on colourings r 1 turn start (take i lines) place_now (omega (arith, turn_is, taken lines i line got)) so_far.rounds
+          let leads : Leads colourings r 1 start (done ++ line ∷ []) (place_after turn line now_at more.next) =
+          leads_on colourings r 1 turn start done place_now (omega (arith, turn_is)) so_far.rounds
           (line ∷ []) (place_after turn line now_at more.next) (on, more.next, more.round, refl) in
-          let whole = subst (Leads colourings r 1 start (take i lines ++ line ∷ [])) here leads in
-          subst (λ (ls : List RoundLine). Leads colourings r 1 start ls (record { state = record { circuit = more.next.circuit; players = others }; over = now })) (sym (take_one_more lines i line got)) whole;
+          subst (Leads colourings r 1 start (done ++ line ∷ [])) here leads;
       left = more.circuit;
     }
 
     -- The run is over before a line.
-    pub ended_before : (turn : ℕ) → turn ≡ i + 1 → over ≢ None → IsCutOff r nodes homes start lines (refusals.Ended turn)
+    pub ended_before : (turn : ℕ) → turn ≡ length done + 1 → over ≢ None → IsCutOff r nodes homes start lines (refusals.Ended turn)
     ended_before turn turn_is ended = record {
-      right = take i lines;
+      right = done;
       line = line;
-      left = drop (suc i) lines;
+      left = left;
       last = place_now;
-      cut = cut_at lines i line got;
+      cut = cut;
       rounds = so_far.rounds;
-      wrong = λ ending. inl (ended, ap refusals.Ended (let at : turn ≡ length (take i lines) + 1 = omega (arith, turn_is, taken lines i line got) in at));
+      wrong = λ ending. inl (ended, ap refusals.Ended turn_is);
     }
 
     -- A line shows no round.
-    pub stopped_at : (turn : ℕ) (stop : Stop) (refusal : Refusal) → turn ≡ i + 1 → over ≡ None → line.round ≡ turn → IsNoRound r now_at line stop → IsRefusalBy nodes homes turn stop refusal
+    pub stopped_at : (turn : ℕ) (stop : Stop) (refusal : Refusal) → turn ≡ length done + 1 → over ≡ None → line.round ≡ turn → IsNoRound r now_at line stop → IsRefusalBy nodes homes turn stop refusal
         → IsCutOff r nodes homes start lines refusal
     stopped_at turn stop refusal turn_is on number why is = record {
-      right = take i lines;
+      right = done;
       line = line;
-      left = drop (suc i) lines;
+      left = left;
       last = place_now;
-      cut = cut_at lines i line got;
+      cut = cut;
       rounds = so_far.rounds;
       wrong = λ ending. inr (
         on,
-        let at : turn ≡ length (take i lines) + 1 = omega (arith, turn_is, taken lines i line got) in
-            subst (λ n. IsWrongRound nodes homes (net_ready r now_at) so_far.circuit.ports n line refusal) at (wrong_by nodes homes (net_ready r now_at) so_far.circuit.ports turn line stop refusal number why is),
+        subst (λ n. IsWrongRound nodes homes (net_ready r now_at) so_far.circuit.ports n line refusal) turn_is (wrong_by nodes homes (net_ready r now_at) so_far.circuit.ports turn line stop refusal number why is),
       );
     }

@@ -1,5 +1,5 @@
 -- The verdict by what a replay comes to.
-use Rattle.std.proofs.Common.{◌≡◌, ◌+◌, ℕ, List, [], ◌∷◌, length, sym, subst}
+use Rattle.std.proofs.Common.{◌≡◌, ◌∙◌, ◌+◌, ℕ, List, [], ◌∷◌, length, sym, subst}
 use Rattle.std.proofs.lemmas.List.{append-nil}
 use Rattle.std.specs.Prelude.{Option, Result, Ok, Err, IfOk}
 use Rattle.reo_trace.specs.declared.line.Ending.{Ending}
@@ -10,28 +10,29 @@ use Rattle.reo_runs.specs.declared.verdicts.verdict.Refusal.{Refusal}
 use Rattle.reo_runs.specs.declared.verdicts.verdict.Verdict.{Verdict}
 use Rattle.reo_runs.specs.declared.verdicts.verdict.Verdict.TheVariants.{Verified, Refused}
 use Rattle.reo_runs.specs.verdicts.Verdicts.{IsRefused, IsVerdict}
+use Rattle.reo_verify.specs.declared.outcome.Outcome.{Outcome}
 use Rattle.reo_verify.specs.judging.Ends.{IsEndOf}
 use Rattle.reo_verify.specs.Replayed.{IsVerdictAt, AreReplayed, IsCutOff}
 
 module _ {P : Type 0} (r : Rules P) (nodes : List (List ℕ)) (homes : List ℕ) (start : Place P) (t : Trace) where
   -- All lines are rounds.
-  pub verdict_by : (over : Option Ending) (verdict : Verdict) → AreReplayed r start t.rounds over → IsVerdictAt over t verdict → IsVerdict r nodes homes start t verdict
-  verdict_by over (Verified rounds jams) are is = (
+  pub verdict_by : (outcome : Outcome) (verdict : Verdict) → AreReplayed r start t.rounds outcome → IsVerdictAt outcome t.ending verdict → IsVerdict r nodes homes start t verdict
+  verdict_by outcome (Verified rounds jams) are is = (
     record {
       last = are.last;
       rounds = are.rounds;
-      ends = subst (λ (o : Option Ending). IsEndOf o (length t.rounds + 1) t.ending) (sym are.over_is) is.0;
+      ends = subst (λ (o : Option Ending). IsEndOf o (length t.rounds + 1) t.ending) (sym are.over_is) (subst (λ (n : ℕ). IsEndOf outcome.over (n + 1) t.ending) are.count is.0);
     },
-    is.1,
-    is.2,
+    is.1 ∙ are.count,
+    is.2 ∙ are.jams,
   )
-  verdict_by over (Refused refusal) are is = record {
+  verdict_by outcome (Refused refusal) are is = record {
     right = t.rounds;
     left = [];
     last = are.last;
     cut = sym (append-nil t.rounds);
     rounds = are.rounds;
-    wrong = (is.1, λ ends. is.0 (subst (λ (o : Option Ending). IsEndOf o (length t.rounds + 1) t.ending) are.over_is ends));
+    wrong = (is.1, λ ends. is.0 (subst (λ (n : ℕ). IsEndOf outcome.over (n + 1) t.ending) (sym are.count) (subst (λ (o : Option Ending). IsEndOf o (length t.rounds + 1) t.ending) are.over_is ends)));
   }
 
   -- Some line is no round.

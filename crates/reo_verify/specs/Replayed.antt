@@ -4,7 +4,6 @@ use Rattle.reo_net_base.specs.Net.{Wiring}
 use Rattle.reo_players.specs.Players.{Player}
 use Rattle.reo_trace.specs.declared.line.RoundLine.{RoundLine}
 use Rattle.reo_trace.specs.declared.line.Ending.{Ending}
-use Rattle.reo_trace_reader.specs.declared.texts.trace.Trace.{Trace}
 use Rattle.reo_rounds.specs.Rules.{Rules}
 use Rattle.reo_runs.specs.Round.{State, RoundOf, net_ready}
 use Rattle.reo_runs.specs.Run.{Place, Leads, over_after}
@@ -17,6 +16,7 @@ use Rattle.reo_runs.specs.verdicts.Replays.{colourings}
 use Rattle.reo_runs.specs.verdicts.Said.{jammed}
 use Rattle.reo_runs.specs.verdicts.Verdicts.{IsWrongAt}
 use Rattle.reo_verify.specs.declared.judging.judging.Stop.{Stop}
+use Rattle.reo_verify.specs.declared.outcome.Outcome.{Outcome}
 use Rattle.reo_verify.specs.declared.halt.Halt.{Halt}
 use Rattle.reo_verify.specs.declared.halt.Halt.TheVariants as halts
 use Rattle.reo_verify.specs.judging.Ends.{IsEndOf}
@@ -34,16 +34,20 @@ pub record IsReplayed {P : Type 0} (r : Rules P) (turn : ℕ) (a : State P) (lin
 abbrev pub IsNoRound : {P : Type 0} → Rules P → State P → RoundLine → Stop → Type 0
 IsNoRound r a line stop = IsLineStop (net_ready r a) a.circuit.ports line stop
 
--- All lines are rounds of a run from the start that comes so far: it is over so, or it is not over.
-pub record AreReplayed {P : Type 0} (r : Rules P) (start : Place P) (lines : List RoundLine) (over : Option Ending) : Type 0 where
+-- All lines are rounds of a run from the start that comes so far, and come to this.
+pub record AreReplayed {P : Type 0} (r : Rules P) (start : Place P) (lines : List RoundLine) (outcome : Outcome) : Type 0 where
   pub last : Place P
   pub rounds : Leads colourings r 1 start lines last
-  pub over_is : last.over ≡ over
+  pub over_is : last.over ≡ outcome.over
+  pub count : outcome.rounds ≡ length lines
+  pub jams : outcome.jammed ≡ jammed lines
 
--- The verdict on a trace all of whose lines are rounds of a run that is over so, or not over.
-abbrev pub IsVerdictAt : Option Ending → Trace → Verdict → Type 0
-IsVerdictAt over t (verdicts.Verified rounds jams) = IsEndOf over (length t.rounds + 1) t.ending × (rounds ≡ length t.rounds) × (jams ≡ jammed t.rounds)
-IsVerdictAt over t (verdicts.Refused refusal) = (IsEndOf over (length t.rounds + 1) t.ending → ⊥) × (refusal ≡ refusals.End)
+-- The verdict on a trace of an ending, all of whose lines are rounds of a run, and come to this.
+abbrev pub IsVerdictAt : Outcome → Ending → Verdict → Type 0
+IsVerdictAt outcome ending (verdicts.Verified rounds jams) =
+    IsEndOf outcome.over (outcome.rounds + 1) ending × (rounds ≡ outcome.rounds) × (jams ≡ outcome.jammed)
+IsVerdictAt outcome ending (verdicts.Refused refusal) =
+    (IsEndOf outcome.over (outcome.rounds + 1) ending → ⊥) × (refusal ≡ refusals.End)
 
 module _ {P : Type 0} (r : Rules P) (nodes : List (List ℕ)) (homes : List ℕ) (start : Place P) where
   -- Some line is no round of such a run, and this is the first that is wrong with it; or memory ran out.

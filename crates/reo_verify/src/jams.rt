@@ -1,9 +1,9 @@
-//! How many cells of a trace are the jam row.
+//! How many cells of a line are the jam row.
 ghost use Rattle.std.specs.Prelude.{◌≡◌, ◌<◌, ◌^◌, [], ◌∷◌};
 ghost use Rattle.std.specs.List.{count_by, flat_map};
-ghost use Rattle.reo_runs.specs.verdicts.Said.{cells_of, is_jam, jammed};
+ghost use Rattle.reo_runs.specs.verdicts.Said.{cells_of, is_jam};
 
-use reo_trace::{Cell, Entry, RoundLine};
+use reo_trace::{Cell, Entry};
 
 /// One where a cell is the jam row.
 fn jams(cell: Cell) -> u64
@@ -26,25 +26,13 @@ fn entry_jams(entry: Entry) -> u64
 }
 
 /// How many cells of some entries are the jam row.
-fn entries_jams(entries: &[Entry]) -> u64
+pub(crate) fn entries_jams(entries: &[Entry]) -> u64
     requires { count_by is_jam (flat_map cells_of entries.now) < 2 ^ 63 }
     ensures { result ≡ count_by is_jam (flat_map cells_of entries.now) }
 {
     let mut count = 0;
     for entry in entries {
         count += entry_jams(*entry);
-    }
-    count
-}
-
-/// How many cells of some lines are the jam row.
-pub(crate) fn jammed(rounds: &[RoundLine]) -> u64
-    requires { jammed rounds.now < 2 ^ 63 }
-    ensures { result ≡ jammed rounds.now }
-{
-    let mut count = 0;
-    for line in rounds {
-        count += entries_jams(line.entries.as_slice());
     }
     count
 }

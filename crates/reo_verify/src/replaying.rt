@@ -9,10 +9,13 @@ ghost use Rattle.reo_runs.specs.at_ports.Pending.{IsButForOffers};
 ghost use Rattle.reo_runs.specs.at_ports.Between.{AreBetween};
 ghost use Rattle.reo_runs.specs.at_ports.Runnable.{CanRun};
 ghost use Rattle.reo_runs.specs.verdicts.Replays.{colourings};
+ghost use Rattle.reo_runs.specs.verdicts.Said.{jammed};
 ghost use Rattle.reo_verify.specs.Replayed.{IsReplayed, IsNoRound, AreReplayed, IsHalted};
 
 use crate::halt::Halt;
+use crate::jams::entries_jams;
 use crate::judging::{Stop, begins, plan_of, refusal_of};
+use crate::outcome::Outcome;
 use crate::witness::Witness;
 use reo_net_base::{Ports, Restoring};
 use reo_net_circuit::Circuit;
@@ -21,6 +24,7 @@ use reo_rounds::{PlainStage, Stage};
 use reo_runs::{Refusal, carry_out, offer_all};
 use reo_script::Script;
 use reo_trace::{Ending, RoundLine};
+use reo_trace_reader::TraceLines;
 use reo_values::Bytes;
 use std::alloc::Global;
 
@@ -70,8 +74,8 @@ fn replay_round<P: Restoring, W: Witness<P>>(
     Ok(carried.over)
 }
 
-/// Makes the rounds that lines show, one after another, as long as the run is not over. The answer
-/// is how it is over after them, if it is.
+/// Makes the rounds that lines show, one after another, as long as the run is not over. Each line
+/// is read, judged and let go.
 ///
 /// # Errors
 ///
@@ -85,32 +89,36 @@ fn replay_rounds<P: Restoring, W: Witness<P>>(
     nodes: &[Bytes],
     homes: &[u32],
     begins: Option<Ending>,
-    rounds: &[RoundLine],
+    rounds: TraceLines,
     witness: &mut W,
-) -> Result<Option<Ending>, Halt>
+) -> Result<Outcome, Halt>
     requires between { let old = stage.old.circuit in
         AreBetween ports.now.list old.ports players.old (map P.port_state old.primitives) }
     requires none_made { stage.old.rounds ≡ 0 }
-    requires lines { AreLines ports.now.list 1 rounds.now }
+    requires lines { AreLines ports.now.list 1 rounds }
+    requires few { jammed rounds < 2 ^ 63 }
     requires none_seen { (start : Place P) → W.seen witness.old start [] witness.old }
     ensures replayed { let r = rules_of P.behaviour P.settled P.port_state P.placed P.withdrawn in
         let circuit = stage.old.circuit in
         let start : Place _ =
         record { state = record { circuit = circuit; players = players.old }; over = begins } in
-        MatchResult result (AreReplayed r start rounds.now)
-        (IsHalted r nodes.now homes.now start rounds.now) }
+        MatchResult result (AreReplayed r start rounds.entry)
+        (IsHalted r nodes.now homes.now start rounds.entry) }
     ensures seen { let circuit = stage.old.circuit in
         let start : Place _ =
         record { state = record { circuit = circuit; players = players.old }; over = begins } in
-        OnOk result (W.seen witness.old start rounds.now witness.new) }
+        OnOk result (W.seen witness.old start rounds.entry witness.new) }
 {
+    let mut left = rounds;
     let mut over = begins;
-    for line in rounds {
+    let mut jammed = 0;
+    while let Some(line) = left.next(alloc)? {
         let turn = stage.rounds() + 1;
         if over.is_some() {
             return Err(Halt::Refused(Refusal::Ended { round: turn }));
         }
-        match replay_round(alloc, stage, players, ports, line, witness) {
+        jammed += entries_jams(line.entries.as_slice());
+        match replay_round(alloc, stage, players, ports, &line, witness) {
             Ok(now) => over = now,
             Err(stop) => {
                 let refusal = refusal_of(alloc, nodes, homes, turn, stop)?;
@@ -118,11 +126,16 @@ fn replay_rounds<P: Restoring, W: Witness<P>>(
             }
         }
     }
-    Ok(over)
+    let rounds = stage.rounds();
+    Ok(Outcome {
+        over,
+        rounds,
+        jammed,
+    })
 }
 
-/// Makes the rounds that lines show, of components on a circuit, each of which is seen. The answer
-/// is how the run is over after them, if it is. No search stands behind it.
+/// Makes the rounds that lines show, of components on a circuit, each of which is seen. No search
+/// stands behind it, and one line at a time is held.
 ///
 /// # Errors
 ///
@@ -135,19 +148,20 @@ pub fn replay<P: Restoring, W: Witness<P>>(
     nodes: &[Bytes],
     homes: &[u32],
     script: Script,
-    rounds: &[RoundLine],
+    rounds: TraceLines,
     witness: &mut W,
-) -> Result<Option<Ending>, Halt>
+) -> Result<Outcome, Halt>
     requires fit { let states = map P.port_state circuit.primitives in
         CanRun states circuit.ports ports.now.list script.components }
-    requires lines { AreLines ports.now.list 1 rounds.now }
+    requires lines { AreLines ports.now.list 1 rounds }
+    requires few { jammed rounds < 2 ^ 63 }
     requires none_seen { (start : Place P) → W.seen witness.old start [] witness.old }
     ensures replayed { let r = rules_of P.behaviour P.settled P.port_state P.placed P.withdrawn in
         let start = start_of circuit script.components in
-        MatchResult result (AreReplayed r start rounds.now)
-        (IsHalted r nodes.now homes.now start rounds.now) }
+        MatchResult result (AreReplayed r start rounds.entry)
+        (IsHalted r nodes.now homes.now start rounds.entry) }
     ensures seen { let start = start_of circuit script.components in
-        OnOk result (W.seen witness.old start rounds.now witness.new) }
+        OnOk result (W.seen witness.old start rounds.entry witness.new) }
 {
     let mut players = Players::new(alloc, script)?;
     let mut stage = PlainStage::new(circuit);

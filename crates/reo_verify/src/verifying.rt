@@ -6,14 +6,13 @@ ghost use Rattle.reo_runs.specs.Run.{start_of};
 ghost use Rattle.reo_runs.specs.at_ports.Kinds.{kind_rules};
 ghost use Rattle.reo_runs.specs.at_ports.Runnable.{CanRun};
 ghost use Rattle.reo_runs.specs.declared.verdicts.verdict.Verdict.{Verdict as AVerdict};
-ghost use Rattle.reo_runs.specs.verdicts.Said.{jammed};
 ghost use Rattle.reo_runs.specs.verdicts.Replays.{HasText};
 ghost use Rattle.reo_runs.specs.verdicts.Verdicts.{IsVerdict};
 ghost use Rattle.reo_verify.specs.Replayed.{IsVerdictAt};
 
 use crate::halt::Halt;
-use crate::jams::jammed;
 use crate::judging::ends_as;
+use crate::outcome::Outcome;
 use crate::replaying::replay;
 use crate::witness::Blind;
 use reo_flatten::Flat;
@@ -23,20 +22,21 @@ use reo_net_circuit::Circuit;
 use reo_runs::{Refusal, Verdict, known_order, one_verdict};
 use reo_script::Script;
 use reo_trace::Ending;
-use reo_trace_reader::Trace;
+use reo_trace_reader::TraceText;
 use reo_values::{Bytes, NoMemory};
 use std::alloc::Global;
 
-/// The verdict on a trace whose lines are all rounds of a run that is over so, or not over.
-fn verdict_at(over: Option<Ending>, trace: &Trace) -> Verdict
-    requires { jammed trace.now.rounds < 2 ^ 63 }
-    ensures { IsVerdictAt over trace.now result }
+/// The verdict on a trace of this ending, whose lines are all rounds of a run, and come to this.
+fn verdict_at(outcome: Outcome, ending: Ending) -> Verdict
+    requires { outcome.rounds < 2 ^ 63 }
+    ensures { IsVerdictAt outcome ending result }
 {
-    let rounds = trace.rounds.as_slice();
-    let count = rounds.len() as u64;
-    if ends_as(over, count + 1, trace.ending) {
-        let jammed = jammed(rounds);
-        let rounds = count;
+    let Outcome {
+        over,
+        rounds,
+        jammed,
+    } = outcome;
+    if ends_as(over, rounds + 1, ending) {
         Verdict::Verified { rounds, jammed }
     } else {
         Verdict::Refused(Refusal::End)
@@ -51,7 +51,7 @@ fn verdict_of<P: Restoring>(
     nodes: &[Bytes],
     homes: &[u32],
     script: Script,
-    trace: &Trace,
+    trace: &TraceText,
 ) -> Result<Verdict, NoMemory>
     requires fit { let states = map P.port_state circuit.primitives in
         CanRun states circuit.ports ports.now.list script.components }
@@ -60,19 +60,19 @@ fn verdict_of<P: Restoring>(
         let start = start_of circuit script.components in
         IfOk result (IsVerdict r nodes.now homes.now start trace.now) }
 {
-    let rounds = trace.rounds.as_slice();
+    let rounds = trace.lines();
     match replay(
         alloc, circuit, ports, nodes, homes, script, rounds, &mut Blind,
     ) {
-        Ok(over) => Ok(verdict_at(over, trace)),
+        Ok(outcome) => Ok(verdict_at(outcome, trace.ending())),
         Err(Halt::Refused(refusal)) => Ok(Verdict::Refused(refusal)),
         Err(Halt::NoMemory) => Err(NoMemory),
     }
 }
 
-/// The verdict on a trace of a script on a circuit. The trace is replayed: in each round the
-/// components make their offers, the line is judged, the circuit steps by its rows and each
-/// component goes on. It is verified where it is the trace of a run in which each round is some
+/// The verdict on a trace of a script on a circuit. The trace is replayed: in each round the line
+/// is read, the components make their offers, the line is judged, the circuit steps by its rows and
+/// each component goes on. It is verified where it is the trace of a run in which each round is some
 /// colouring; otherwise the refusal is the first that is wrong with it.
 ///
 /// Not judged are whether a colouring is the first, and why a round could not be planned.
@@ -81,7 +81,7 @@ pub fn verify_trace(
     alloc: Global,
     flat: Flat,
     script: Script,
-    trace: &Trace,
+    trace: &TraceText,
 ) -> Result<Verdict, NoMemory>
     requires fit { let states = map port_state_of flat.circuit.primitives in
         CanRun states flat.circuit.ports flat.ports.list script.components }

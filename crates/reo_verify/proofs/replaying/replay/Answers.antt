@@ -23,7 +23,7 @@ returns-clause-replayed g c =
     let start : Place g.row.P.Denot = start_of c.args.circuit c.args.script.components in
     let same : record { state = record { circuit = c.new-stage.result.circuit; players = c.in_ok-players.players }; over = c.begins-begins.result } ≡ start =
     λ i. record { state = record { circuit = c.new-stage.ensures.circuit i; players = c.in_ok-players.ensures i }; over = over i } in
-    subst (λ (s : Place g.row.P.Denot). MatchResult c.replay_rounds.result (AreReplayed r s c.args.rounds.now) (IsHalted r c.args.nodes.now c.args.homes.now s c.args.rounds.now)) same c.replay_rounds.ensures.replayed
+    subst (λ (s : Place g.row.P.Denot). MatchResult c.replay_rounds.result (AreReplayed r s c.args.rounds) (IsHalted r c.args.nodes.now c.args.homes.now s c.args.rounds)) same c.replay_rounds.ensures.replayed
 
 pub returns-clause-seen : goal.returns-clause-seen
 returns-clause-seen g c =
@@ -31,4 +31,4 @@ returns-clause-seen g c =
     let start : Place g.row.P.Denot = start_of c.args.circuit c.args.script.components in
     let same : record { state = record { circuit = c.new-stage.result.circuit; players = c.in_ok-players.players }; over = c.begins-begins.result } ≡ start =
     λ i. record { state = record { circuit = c.new-stage.ensures.circuit i; players = c.in_ok-players.ensures i }; over = over i } in
-    subst (λ (s : Place g.row.P.Denot). OnOk c.replay_rounds.result (g.W.Witness.seen c.args.witness.now s c.args.rounds.now c.replay_rounds.new.witness)) same c.replay_rounds.ensures.seen
+    subst (λ (s : Place g.row.P.Denot). OnOk c.replay_rounds.result (g.W.Witness.seen c.args.witness.now s c.args.rounds c.replay_rounds.new.witness)) same c.replay_rounds.ensures.seen
