@@ -11,6 +11,7 @@ ghost use Rattle.reo_command.specs.Statuses.{IsAmong};
 ghost use Rattle.reo_command.specs.top_base.Answered.{IsAnswered};
 ghost use Rattle.reo_command.specs.top_base.Cases.{Cases, IsExact, IsFair, TellsFaults};
 ghost use Rattle.reo_command.specs.top_base.Owed.{owed_by};
+ghost use Rattle.reo_draw_rounds.specs.Tables.{table_text};
 ghost use Rattle.reo_draw_command.specs.Tabled.{tabled_text, TablesTrace};
 ghost use Rattle.reo_draw_command.specs.DrawStatuses.{statuses_of_table};
 
@@ -18,9 +19,10 @@ use reo_circuit_texts::{circuit_names_are_plain, circuits_are_spelled};
 use reo_command::{CircuitAndScript, Claim, Status, answer, no_memory, read_claim, refuse};
 use reo_draw_rounds::table_text;
 use reo_io::{Files, Sink};
+use reo_net_base::Port;
 use reo_runs::ports_are_told;
 use reo_top::{Verdict, verdict_line, verdict_status, verify_trace};
-use reo_trace_reader::one_trace_answer;
+use reo_trace_reader::{TraceText, one_trace_answer};
 use reo_values::{Bytes, NoMemory};
 use std::alloc::Global;
 
@@ -33,6 +35,14 @@ fn tabled_text(alloc: Global, table: Bytes, verdict: &Verdict) -> Result<Bytes, 
         Verdict::Verified { .. } => Ok(table),
         Verdict::Refused(_) => verdict_line(alloc, verdict),
     }
+}
+
+/// The table of a trace, all of whose lines are read for it. `NoMemory` is out of memory.
+fn table_of(alloc: Global, ports: &[Port], trace: &TraceText) -> Result<Bytes, NoMemory>
+    ensures { IfOk result (λ text. text ≡ table_text ports.now trace.now) }
+{
+    let trace = trace.whole(alloc)?;
+    table_text(alloc, ports, &trace)
 }
 
 /// Writes the table of a trace, or why it is refused.
@@ -51,7 +61,7 @@ fn write_table<S: Sink>(alloc: Global, claim: Claim, out: &mut S) -> Status
         work: CircuitAndScript { flat, script },
         trace,
     } = claim;
-    let Ok(table) = table_text(alloc, flat.ports.list.as_slice(), &trace) else {
+    let Ok(table) = table_of(alloc, flat.ports.list.as_slice(), &trace) else {
         return no_memory(out);
     };
     let Ok(verdict) = verify_trace(alloc, flat, script, &trace) else {

@@ -5,7 +5,6 @@ use Rattle.reo_net_base.specs.declared.port.Port.{Port}
 use Rattle.reo_net_base.specs.Net.{net_of}
 use Rattle.reo_kinds.specs.declared.kind.Kind.{Kind}
 use Rattle.reo_trace.specs.declared.line.RoundLine.{RoundLine}
-use Rattle.reo_trace.specs.declared.line.Ending.{Ending}
 use Rattle.reo_trace_reader.specs.declared.texts.trace.Trace.{Trace}
 use Rattle.reo_rounds.specs.Order.{HasOrder}
 use Rattle.reo_runs.specs.Run.{Place, IsRun}
@@ -17,6 +16,7 @@ use Rattle.reo_runs.specs.verdicts.Laws.{OneVerdict}
 use Rattle.reo_runs.specs.verdicts.Replays.{colourings}
 use Rattle.reo_runs.specs.verdicts.Said.{jammed}
 use Rattle.reo_runs.specs.verdicts.Verdicts.{IsRefused, IsVerdict}
+use Rattle.reo_verify.specs.declared.outcome.Outcome.{Outcome}
 use Rattle.reo_verify.specs.Replayed.{AreReplayed}
 use Rattle.reo_verify.proofs.VerdictLemmas.{verdict_by}
 use Rattle.reo_draw_rounds.specs.Rounds.{round_picture}
@@ -29,17 +29,17 @@ use Rattle.reo_draw_replay.specs.Steps.{IsDrawnWithin, IsShownAt}
 
 module _ (ports : List Port) (nodes : List (List ℕ)) (homes : List ℕ) (start : Place Kind) (t : Trace) (number : ℕ) where
   -- All lines are rounds.
-  pub shown_by : (over : Option Ending) (picture : Option (List ℕ)) (shown : Shown) → AreReplayed kind_rules start t.rounds over → IsDrawnWithin ports nodes homes start t.rounds (length t.rounds) number picture
-      → IsShownAt over picture t shown → IsShown ports nodes homes start t number shown
-  shown_by over picture (Picture p) are within is = (
-    (verdict_by kind_rules nodes homes start t over (verdicts.Verified (length t.rounds) (jammed t.rounds)) are (is.0, refl, refl)).0,
+  pub shown_by : (outcome : Outcome) (picture : Option (List ℕ)) (shown : Shown) → AreReplayed kind_rules start t.rounds outcome → IsDrawnWithin ports nodes homes start t.rounds (length t.rounds) number picture
+      → IsShownAt outcome picture t.ending shown → IsShown ports nodes homes start t number shown
+  shown_by outcome picture (Picture p) are within is = (
+    (verdict_by kind_rules nodes homes start t outcome (verdicts.Verified outcome.rounds outcome.jammed) are (is.0, refl, refl)).0,
     subst (λ (o : Option (List ℕ)). IsDrawnWithin ports nodes homes start t.rounds (length t.rounds) number o) is.1 within,
   )
-  shown_by over picture NoRound are within is = (
-    (verdict_by kind_rules nodes homes start t over (verdicts.Verified (length t.rounds) (jammed t.rounds)) are (is.0, refl, refl)).0,
+  shown_by outcome picture NoRound are within is = (
+    (verdict_by kind_rules nodes homes start t outcome (verdicts.Verified outcome.rounds outcome.jammed) are (is.0, refl, refl)).0,
     subst (λ (o : Option (List ℕ)). IsDrawnWithin ports nodes homes start t.rounds (length t.rounds) number o) is.1 within,
   )
-  shown_by over picture (Refused refusal) are within is = verdict_by kind_rules nodes homes start t over (verdicts.Refused refusal) are is
+  shown_by outcome picture (Refused refusal) are within is = verdict_by kind_rules nodes homes start t outcome (verdicts.Refused refusal) are is
 
   -- The lines have the round that is drawn.
   within : (picture : List ℕ) → IsDrawn ports nodes homes start t.rounds number picture → (1 ≤ number → length t.rounds < number) → ⊥

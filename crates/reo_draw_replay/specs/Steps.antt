@@ -6,10 +6,10 @@ use Rattle.reo_net_base.specs.Net.{Wiring, net_of}
 use Rattle.reo_kinds.specs.declared.kind.Kind.{Kind}
 use Rattle.reo_trace.specs.declared.line.RoundLine.{RoundLine}
 use Rattle.reo_trace.specs.declared.line.Ending.{Ending}
-use Rattle.reo_trace_reader.specs.declared.texts.trace.Trace.{Trace}
 use Rattle.reo_runs.specs.Run.{Place}
 use Rattle.reo_runs.specs.at_ports.Kinds.{kind_rules}
 use Rattle.reo_runs.specs.declared.verdicts.verdict.Refusal.TheVariants as refusals
+use Rattle.reo_verify.specs.declared.outcome.Outcome.{Outcome}
 use Rattle.reo_verify.specs.judging.Ends.{IsEndOf}
 use Rattle.reo_verify.specs.judging.Judged.{IsColouringSaid}
 use Rattle.reo_draw_rounds.specs.Rounds.{round_picture}
@@ -39,8 +39,8 @@ pub record HasDrawn (first : Pictured) (start : Place Kind) (lines : List RoundL
   pub number : now.number ≡ first.number
   pub drawn : IsDrawnWithin now.ports.now.list now.nodes.now now.homes.now start lines (length lines) now.number now.picture
 
--- What there is to show of a trace all of whose lines are rounds of a run that is over so, or not over.
-abbrev pub IsShownAt : Option Ending → Option (List ℕ) → Trace → Shown → Type 0
-IsShownAt over picture t (shown.Picture p) = IsEndOf over (length t.rounds + 1) t.ending × (picture ≡ Some p)
-IsShownAt over picture t shown.NoRound = IsEndOf over (length t.rounds + 1) t.ending × (picture ≡ None)
-IsShownAt over picture t (shown.Refused refusal) = (IsEndOf over (length t.rounds + 1) t.ending → ⊥) × (refusal ≡ refusals.End)
+-- What there is to show of a trace of an ending, all of whose lines are rounds of a run, and come to this.
+abbrev pub IsShownAt : Outcome → Option (List ℕ) → Ending → Shown → Type 0
+IsShownAt outcome picture ending (shown.Picture p) = IsEndOf outcome.over (outcome.rounds + 1) ending × (picture ≡ Some p)
+IsShownAt outcome picture ending shown.NoRound = IsEndOf outcome.over (outcome.rounds + 1) ending × (picture ≡ None)
+IsShownAt outcome picture ending (shown.Refused refusal) = (IsEndOf outcome.over (outcome.rounds + 1) ending → ⊥) × (refusal ≡ refusals.End)

@@ -1,5 +1,5 @@
 //! One round of a trace that is replayed.
-ghost use Rattle.std.specs.Prelude.{◌≡◌, IfOk, map};
+ghost use Rattle.std.specs.Prelude.{◌≡◌, ◌<◌, ◌^◌, IfOk, map};
 ghost use Rattle.reo_kinds.specs.Kinds.{port_state_of};
 ghost use Rattle.reo_runs.specs.Run.{start_of};
 ghost use Rattle.reo_runs.specs.at_ports.Runnable.{CanRun};
@@ -17,9 +17,9 @@ use reo_net_circuit::Circuit;
 use reo_runs::{Refusal, known_order, one_verdict};
 use reo_script::Script;
 use reo_trace::Ending;
-use reo_trace_reader::Trace;
+use reo_trace_reader::TraceText;
 use reo_values::{Bytes, NoMemory};
-use reo_verify::{Halt, ends_as, replay};
+use reo_verify::{Halt, Outcome, ends_as, replay};
 use std::alloc::Global;
 
 /// What there is to show of a trace.
@@ -33,14 +33,13 @@ pub enum Shown {
     Refused(Refusal),
 }
 
-/// What there is to show of a trace whose lines are all rounds of a run that is over so, or not
-/// over.
-fn shown_at(over: Option<Ending>, picture: Option<Bytes>, trace: &Trace) -> Shown
-    ensures { IsShownAt over picture trace.now result }
+/// What there is to show of a trace of this ending, whose lines are all rounds of a run, and come to
+/// this.
+fn shown_at(outcome: Outcome, picture: Option<Bytes>, ending: Ending) -> Shown
+    requires { outcome.rounds < 2 ^ 63 }
+    ensures { IsShownAt outcome picture ending result }
 {
-    let rounds = trace.rounds.as_slice();
-    let count = rounds.len() as u64;
-    if ends_as(over, count + 1, trace.ending) {
+    if ends_as(outcome.over, outcome.rounds + 1, ending) {
         match picture {
             Some(picture) => Shown::Picture(picture),
             None => Shown::NoRound,
@@ -58,7 +57,7 @@ fn shown_of(
     nodes: &[Bytes],
     homes: &[u32],
     script: Script,
-    trace: &Trace,
+    trace: &TraceText,
     number: u64,
 ) -> Result<Shown, NoMemory>
     requires fit { let states = map port_state_of circuit.primitives in
@@ -67,7 +66,7 @@ fn shown_of(
     ensures { let start = start_of circuit script.components in
         IfOk result (IsShown ports.now.list nodes.now homes.now start trace.now number) }
 {
-    let rounds = trace.rounds.as_slice();
+    let rounds = trace.lines();
     let mut drawing = Pictured {
         ports,
         nodes,
@@ -85,7 +84,7 @@ fn shown_of(
         rounds,
         &mut drawing,
     ) {
-        Ok(over) => Ok(shown_at(over, drawing.picture, trace)),
+        Ok(outcome) => Ok(shown_at(outcome, drawing.picture, trace.ending())),
         Err(Halt::Refused(refusal)) => Ok(Shown::Refused(refusal)),
         Err(Halt::NoMemory) => Err(NoMemory),
     }
@@ -98,7 +97,7 @@ pub fn show_round(
     alloc: Global,
     flat: Flat,
     script: Script,
-    trace: &Trace,
+    trace: &TraceText,
     number: u64,
 ) -> Result<Shown, NoMemory>
     requires fit { let states = map port_state_of flat.circuit.primitives in
