@@ -38,8 +38,8 @@ fn read_lines<F: Files>(
     trace_of(alloc, text, ports)
 }
 
-/// A circuit, a script for its ports, and a trace that is said to be that of their run, which is held
-/// as its text.
+/// A circuit, a script for its ports, and a trace that is said to be that of their run, which is
+/// held as its text.
 #[derive(Drop)]
 pub struct Claim {
     pub work: CircuitAndScript,

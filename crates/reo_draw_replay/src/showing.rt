@@ -33,8 +33,8 @@ pub enum Shown {
     Refused(Refusal),
 }
 
-/// What there is to show of a trace of this ending, whose lines are all rounds of a run, and come to
-/// this.
+/// What there is to show of a trace of this ending, whose lines are all rounds of a run, and come
+/// to this.
 fn shown_at(outcome: Outcome, picture: Option<Bytes>, ending: Ending) -> Shown
     requires { outcome.rounds < 2 ^ 63 }
     ensures { IsShownAt outcome picture ending result }

@@ -74,10 +74,10 @@ impl TraceText {
     ///
     /// # Errors
     ///
-    /// `Line` comes exactly where the text is no trace, with its first wrong line, from 1: the first
-    /// that is neither the line of the next round nor, as the last line, an ending; where the text
-    /// ends without an ending, the line after the last. A last line without line feed is wrong, and
-    /// so is line 1 of the empty text. `NoMemory` is out of memory.
+    /// `Line` comes exactly where the text is no trace, with its first wrong line, from 1: the
+    /// first that is neither the line of the next round nor, as the last line, an ending; where
+    /// the text ends without an ending, the line after the last. A last line without line feed is
+    /// wrong, and so is line 1 of the empty text. `NoMemory` is out of memory.
     pub fn read(alloc: Global, text: Bytes, ports: &Ports) -> Result<TraceText, TraceFault>
         requires { AreTold ports.now.list }
         ensures read { IsRead ports.now.list text result }

@@ -71,9 +71,9 @@ fn verdict_of<P: Restoring>(
 }
 
 /// The verdict on a trace of a script on a circuit. The trace is replayed: in each round the line
-/// is read, the components make their offers, the line is judged, the circuit steps by its rows and
-/// each component goes on. It is verified where it is the trace of a run in which each round is some
-/// colouring; otherwise the refusal is the first that is wrong with it.
+/// is read, the components make their offers, the line is judged, the circuit steps by its rows
+/// and each component goes on. It is verified where it is the trace of a run in which each round
+/// is some colouring; otherwise the refusal is the first that is wrong with it.
 ///
 /// Not judged are whether a colouring is the first, and why a round could not be planned.
 /// `NoMemory` is out of memory.

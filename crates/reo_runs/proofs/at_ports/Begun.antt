@@ -13,7 +13,7 @@ use Rattle.reo_runs.specs.at_ports.Pending.{held_at}
 use Rattle.reo_runs.specs.at_ports.Between.{AreBetween}
 use Rattle.reo_runs.specs.at_ports.Runnable.{CanRun}
 
-got : {X : Type 0} (xs : List X) (i : ℕ) → i < length xs → (x : X) × (slice_get xs i ≡ Some x)
+pub got : {X : Type 0} (xs : List X) (i : ℕ) → i < length xs → (x : X) × (slice_get xs i ≡ Some x)
 got [] i lt = absurd (omega arith)
 got (x ∷ xs) zero lt = (x, refl)
 got (x ∷ xs) (suc i) lt = got xs i (omega arith)
