@@ -1,5 +1,5 @@
 -- The ports of open circuits are gates.
-use Rattle.std.proofs.Common.{◌≡◌, ◌≢◌, inl, inr, ℕ, zero, suc, ◌+◌, ◌<◌, ◌≤◌, List, [], ◌∷◌, Bool, true, false, cond, length, map, get_or, refl, ap, sym, ◌∙◌, subst, arith}
+use Rattle.std.proofs.Common.{◌≡◌, inl, inr, ℕ, zero, suc, ◌+◌, ◌<◌, List, [], ◌∷◌, Bool, true, false, cond, length, map, get_or, refl, ap, sym, ◌∙◌, subst, arith}
 use Rattle.std.specs.Prelude.{filter}
 use Rattle.std.specs.List.{range_with_len}
 use Rattle.std.specs.List.Sorted.{IsStrictlyIncreasing}
@@ -7,14 +7,13 @@ use Rattle.std.proofs.lemmas.List.{length-map, get_or-map}
 use Rattle.std.proofs.lemmas.List.FromFn.{get_or-range_with_len, length-range_with_len}
 use Rattle.std.proofs.lemmas.List.Kept.{IsStrictlyIncreasing-filter}
 use Rattle.reo_net_base.specs.Behaviour.{Behaviour, nothing}
-use Rattle.reo_net_base.specs.Net.{Net, Wiring, behaviour_at, end_of, side_at}
-use Rattle.reo_net_base.specs.Wired.{ArePorts, IsPort}
+use Rattle.reo_net_base.specs.Net.{Wiring, behaviour_at, end_of, side_at}
+use Rattle.reo_net_base.specs.Wired.{ArePorts}
 use Rattle.reo_net_circuit.proofs.Cases.{lt_cases}
 use Rattle.reo_kinds.specs.declared.kind.Kind.{Kind}
 use Rattle.reo_kinds.specs.declared.kind.Kind.TheVariants.{Writer, Taker, Sync, Merger, Replicator}
 use Rattle.reo_kinds.specs.Kinds.{behaviour_of}
 use Rattle.reo_open.specs.declared.gate.GateRows.TheVariants.{All}
-use Rattle.reo_open.specs.declared.opens.Open.{Open}
 use Rattle.reo_open.specs.Opened.{opened, open_wiring, open_net}
 use Rattle.reo_listing.specs.base.Tables.{ports_in}
 use Rattle.reo_listing.specs.laws.Gated.{AreHeld, IsGate, gate_of}

@@ -1,9 +1,9 @@
 -- A circuit in which a gate says one thing has fewer rows.
-use Rattle.std.proofs.Common.{◌≡◌, ◌≢◌, inl, inr, ℕ, zero, suc, ◌+◌, ◌<◌, Bool, List, true, length, refl, sym, subst, arith}
+use Rattle.std.proofs.Common.{◌≡◌, inl, inr, ℕ, zero, suc, ◌<◌, Bool, List, true, refl, sym, subst, arith}
 use Rattle.reo_net_base.specs.declared.mark.Mark.{Mark}
 use Rattle.reo_net_base.specs.declared.mark.Mark.TheVariants.{F, G, R, J}
 use Rattle.reo_net_base.specs.Behaviour.{Behaviour}
-use Rattle.reo_net_base.specs.Net.{Net, Wiring, net_of, behaviour_at, end_of, first_side, side_at}
+use Rattle.reo_net_base.specs.Net.{Net, Wiring, net_of, behaviour_at, end_of, side_at}
 use Rattle.reo_net_base.specs.Rows.{row_count, mark_in}
 use Rattle.reo_net_base.specs.Wired.{IsWired, IsOrder}
 use Rattle.reo_net_circuit.proofs.Cases.{eq_cases}
@@ -17,7 +17,7 @@ use Rattle.reo_weights.specs.Fewer.{StandsFor, HasFewerRows}
 use Rattle.reo_weights.specs.Over.{IsWithin}
 use Rattle.reo_weights.proofs.FewerWeights.{fewer_within}
 use Rattle.reo_listing.specs.laws.Gated.{allowed_for, gate_of, IsGate, put_at}
-use Rattle.reo_listing.proofs.laws.Gates.{IsPlain, gate_is, gate_end, changed_here, changed_other, shapes}
+use Rattle.reo_listing.proofs.laws.Gates.{IsPlain, gate_is, changed_here, changed_other, shapes}
 
 -- A row of another table of a gate says the same.
 record Says (m : Mark) (row : ℕ) : Type 0 where

@@ -1,12 +1,12 @@
 -- What ports meet whose first gates say what a front says.
-use Rattle.std.proofs.Common.{◌≡◌, ◌≢◌, inl, inr, ℕ, zero, suc, ◌+◌, ◌<◌, ◌≤◌, List, [], ◌∷◌, ◌++◌, Bool, Option, true, length, map, get_or, refl, ap, sym, ◌∙◌, subst, arith}
+use Rattle.std.proofs.Common.{◌≡◌, ◌≢◌, inl, inr, ℕ, zero, suc, ◌+◌, ◌<◌, ◌≤◌, List, [], ◌∷◌, ◌++◌, Bool, Option, length, get_or, refl, ap, sym, ◌∙◌, subst, arith}
 use Rattle.std.specs.Prelude.{Contains}
 use Rattle.std.proofs.lemmas.List.{length-append, length-map, get_or-map}
 use Rattle.std.proofs.lemmas.List.Elements.{Contains-append_left, Contains-append_right, Contains-append_cases}
 use Rattle.reo_values.specs.declared.value.Value.{Value}
 use Rattle.reo_net_base.specs.declared.mark.Mark.{Mark}
 use Rattle.reo_net_base.specs.declared.mark.Mark.TheVariants.{F, G, R, J}
-use Rattle.reo_net_base.specs.Net.{Net, Wiring, net_of, end_of, side_at, mark_at}
+use Rattle.reo_net_base.specs.Net.{Net, Wiring, net_of, end_of, mark_at}
 use Rattle.reo_net_base.specs.Step.{change_at}
 use Rattle.reo_net_base.specs.Wired.{IsWired, IsEnd}
 use Rattle.reo_net_circuit.proofs.Cases.{lt_cases, eq_cases}

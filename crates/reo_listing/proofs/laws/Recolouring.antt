@@ -1,14 +1,10 @@
 -- Assignments of circuits that differ at one gate.
-use Rattle.std.proofs.Common.{◌≡◌, ◌≢◌, inl, inr, ℕ, suc, ◌+◌, ◌<◌, ◌==◌, List, Bool, Option, Some, None, true, false, length, get_or, refl, ap, sym, ◌∙◌, subst, arith}
+use Rattle.std.proofs.Common.{◌≡◌, ◌≢◌, inl, inr, ℕ, ◌+◌, ◌<◌, ◌==◌, List, Bool, Option, None, true, false, length, get_or, ap, sym, ◌∙◌, arith}
 use Rattle.std.specs.Option.{option_and_then}
 use Rattle.reo_values.specs.declared.value.Value.{Value}
-use Rattle.reo_values.specs.declared.value.Value.TheVariants.{Unit}
-use Rattle.reo_net_base.specs.declared.mark.Mark.{Mark}
-use Rattle.reo_net_base.specs.declared.mark.Mark.TheVariants.{F}
 use Rattle.reo_net_base.specs.declared.joint.End.{End}
 use Rattle.reo_net_base.specs.declared.joint.Joint.{Joint}
 use Rattle.reo_net_base.specs.Behaviour.{Behaviour}
-use Rattle.reo_net_base.specs.Lawful.{SameShape}
 use Rattle.reo_net_base.specs.Net.{Net, Side, all_sides, behaviour_at, end_of, first_side, side_at, row_at, mark_at, no_side}
 use Rattle.reo_net_base.specs.Net as nets
 use Rattle.reo_net_base.specs.Colouring.{taken_at, given_at, lets_in}

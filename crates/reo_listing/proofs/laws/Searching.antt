@@ -1,9 +1,7 @@
 -- How a search goes on from port to port.
-use Rattle.std.proofs.Common.{◌≡◌, ◌≢◌, ℕ, ◌+◌, ◌<◌, ◌≤◌, List, [], ◌∷◌, ◌++◌, Bool, true, length, get_or, refl, sym, ◌∙◌, ap, subst, arith, append_assoc, append-nil}
-use Rattle.std.specs.Prelude.{Contains}
+use Rattle.std.proofs.Common.{◌≡◌, ℕ, ◌+◌, ◌<◌, ◌≤◌, List, [], ◌∷◌, ◌++◌, Bool, length, get_or, refl, sym, ◌∙◌, ap, arith, append_assoc, append-nil}
 use Rattle.std.proofs.lemmas.List.{length-append}
 use Rattle.reo_net_base.specs.declared.mark.Mark.{Mark}
-use Rattle.reo_net_base.specs.declared.mark.Mark.TheVariants.{F, G, R, J}
 use Rattle.reo_net_base.specs.Net.{Net, Wiring, net_of}
 use Rattle.reo_net_base.specs.Wired.{IsWired}
 use Rattle.reo_net_circuit.proofs.ReshapeLemmas.{wired_same, order_same, lawful_at}
@@ -20,9 +18,9 @@ use Rattle.reo_open.specs.OpenLaws.{open_lawful}
 use Rattle.reo_search.specs.First.{HasNoThreeColouring}
 use Rattle.reo_listing.specs.declared.base.fault.ListFault.{ListFault}
 use Rattle.reo_listing.specs.declared.base.fault.ListFault.TheVariants as faults
-use Rattle.reo_listing.specs.base.Tables.{AreMet, IsTable, mark_number, most_rows}
+use Rattle.reo_listing.specs.base.Tables.{mark_number, most_rows}
 use Rattle.reo_listing.specs.laws.Extended.{Extends, HasMoreThanMost, IsExtendFault}
-use Rattle.reo_listing.specs.laws.Gated.{allowed_for, gate_of, IsGate, put_at, AreHeld}
+use Rattle.reo_listing.specs.laws.Gated.{allowed_for, gate_of, IsGate, put_at}
 use Rattle.reo_listing.specs.laws.Searched.{IsSearched, HasThreeColouring}
 use Rattle.reo_listing.proofs.laws.FewerGates.{still_within}
 use Rattle.reo_listing.proofs.laws.Fronts.{UpTo, front_table, next_gate, longer, up_to_none, up_to_more, up_to_all, met_more}

@@ -1,14 +1,14 @@
 -- Tables by the marks of one port.
-use Rattle.std.proofs.Common.{◌≡◌, ◌≢◌, inl, inr, ◌⊎◌, ℕ, zero, suc, ◌+◌, ◌-◌, ◌<◌, ◌≤◌, List, [], ◌∷◌, ◌++◌, Bool, length, get_or, refl, sym, ◌∙◌, subst, arith}
+use Rattle.std.proofs.Common.{inl, inr, ℕ, ◌-◌, ◌<◌, List, [], ◌++◌, Bool, length, get_or, arith}
 use Rattle.std.specs.Prelude.{Contains}
 use Rattle.std.proofs.lemmas.List.{length-append}
 use Rattle.std.proofs.Math.ListN.{get_or-append}
 use Rattle.std.proofs.Math.Seq.{get_or-append_right}
-use Rattle.std.proofs.lemmas.List.Elements.{Contains-get_or, Contains-append_left, Contains-append_right, Contains-append_cases}
+use Rattle.std.proofs.lemmas.List.Elements.{Contains-get_or, Contains-append_cases}
 use Rattle.reo_net_base.specs.declared.mark.Mark.{Mark}
 use Rattle.reo_net_base.specs.Net.{Net}
 use Rattle.reo_net_circuit.proofs.Cases.{lt_cases}
-use Rattle.reo_listing.specs.base.Tables.{IsMet, AreMet, IsTable, StandsBefore}
+use Rattle.reo_listing.specs.base.Tables.{AreMet, StandsBefore}
 
 -- Lists that stand before others.
 module _ (net : Net) (inside : ℕ → Bool) (ports : List ℕ) where
