@@ -1,3 +1,4 @@
 pub mod MeetingLemmas
 pub mod WalkingLemmas
 pub mod PartLemmas
+pub mod LookupsLemmas

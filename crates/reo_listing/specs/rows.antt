@@ -1,3 +1,4 @@
 pub mod Full
+pub mod Lookups
 pub mod Meeting
 pub mod PartTables

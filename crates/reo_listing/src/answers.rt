@@ -2,4 +2,4 @@
 
 mod laws;
 
-pub use laws::one_listing;
+pub use laws::{listing_exists, one_listing};

@@ -5,13 +5,14 @@ ghost use Rattle.reo_net_laws.specs.Knots.{in_knot, knot_count};
 ghost use Rattle.reo_open.specs.Opens.{open_behaviour};
 ghost use Rattle.reo_listing.specs.base.Tables.{ports_in};
 ghost use Rattle.reo_listing.specs.base.Listed.{AreTables, ListsParts};
+ghost use Rattle.reo_listing.specs.rows.Lookups.{AreLookups, AreLookupsBeside};
 ghost use Rattle.reo_listing.specs.rows.PartTables.{IsPartFault};
 ghost use Rattle.reo_listing.specs.Listable.{IsListable};
 ghost use Rattle.reo_listing.specs.Parts.{IsPartsTable, StopsAt};
 
 use crate::base::{BoundaryTable, ListFault};
 use crate::ports::ports_of;
-use crate::rows::rows_of;
+use crate::rows::{Lookups, rows_of};
 use reo_knots::Knots;
 use reo_net_circuit::Circuit;
 use reo_open::Open;
@@ -33,6 +34,7 @@ fn table_of<L: Ledger>(
     part: usize,
     ports: List<usize>,
     budget: u64,
+    lookups: &mut Lookups,
     steps: &mut Steps<L>,
 ) -> Result<BoundaryTable, ListFault>
     requires budget { budget < 10 ^ 18 }
@@ -40,15 +42,31 @@ fn table_of<L: Ledger>(
     requires part { part < knot_count knots.now }
     requires ports { ports ≡ ports_in (net_of open_behaviour circuit.old) circuit.old.ports
         (in_knot knots.now.numbers part) }
+    requires lookups { AreLookupsBeside (net_of open_behaviour circuit.old) knots.now part
+        lookups.old }
     ensures circuit { OnOk result (circuit.new ≡ circuit.old) }
+    ensures lookups { OnOk result (AreLookups (net_of open_behaviour circuit.old) knots.now
+        lookups.new) }
     ensures table { let net = net_of open_behaviour circuit.old in
         let numbers = knots.now.numbers in
         MatchResult result (IsPartsTable net circuit.old.ports budget numbers part)
         (IsPartFault budget net (in_knot numbers part) ports part) }
 {
-    match rows_of(alloc, circuit, knots, part, ports.as_slice(), budget, steps) {
+    match rows_of(
+        alloc,
+        circuit,
+        knots,
+        part,
+        ports.as_slice(),
+        budget,
+        lookups,
+        steps,
+    ) {
         Err(fault) => Err(fault),
-        Ok(rows) => Ok(BoundaryTable { part, ports, rows }),
+        Ok(rows) => {
+            lookups.renew(alloc, circuit, knots, part)?;
+            Ok(BoundaryTable { part, ports, rows })
+        }
     }
 }
 
@@ -63,6 +81,7 @@ fn add_part<L: Ledger>(
     knots: &Knots,
     part: usize,
     budget: u64,
+    lookups: &mut Lookups,
     tables: &mut List<BoundaryTable>,
     steps: &mut Steps<L>,
 ) -> Result<(), ListFault>
@@ -71,7 +90,10 @@ fn add_part<L: Ledger>(
     requires part { part < knot_count knots.now }
     requires before { let net = net_of open_behaviour circuit.old in
         AreTables net circuit.old.ports budget knots.now.numbers part tables.old }
+    requires lookups { AreLookups (net_of open_behaviour circuit.old) knots.now lookups.old }
     ensures circuit { OnOk result (circuit.new ≡ circuit.old) }
+    ensures lookups { OnOk result (AreLookups (net_of open_behaviour circuit.old) knots.now
+        lookups.new) }
     ensures tables { let net = net_of open_behaviour circuit.old in
         let numbers = knots.now.numbers in
         MatchResult result
@@ -82,7 +104,7 @@ fn add_part<L: Ledger>(
     if ports.is_empty() {
         return Ok(());
     }
-    match table_of(alloc, circuit, knots, part, ports, budget, steps) {
+    match table_of(alloc, circuit, knots, part, ports, budget, lookups, steps) {
         Err(fault) => Err(fault),
         Ok(table) => {
             tables.push(table)?;
@@ -109,9 +131,19 @@ pub(crate) fn list_parts<L: Ledger>(
         ListsParts net circuit.ports budget knots.now.numbers (knot_count knots.now) result }
 {
     let mut circuit = circuit;
+    let mut lookups = Lookups::new(alloc, &circuit, knots)?;
     let mut tables = List::new(alloc);
     for part in 0..knots.count() {
-        if let Err(fault) = add_part(alloc, &mut circuit, knots, part, budget, &mut tables, steps) {
+        if let Err(fault) = add_part(
+            alloc,
+            &mut circuit,
+            knots,
+            part,
+            budget,
+            &mut lookups,
+            &mut tables,
+            steps,
+        ) {
             return Err(fault);
         }
     }

@@ -2,8 +2,11 @@
 
 mod adding;
 mod holding;
+mod lookups;
 mod meeting;
 mod part;
+mod searching;
 mod walking;
 
+pub use lookups::Lookups;
 pub use part::rows_of;

@@ -1,21 +1,18 @@
 -- Unit alone can stand at the joints of an open circuit.
-use Rattle.std.proofs.Common.{ℕ, zero, suc, ◌+◌, ◌<◌, ◌≡◌, Bool, Option, Some, None, List, [], ◌∷◌, length, map, refl, sym, ◌∙◌, subst, arith}
+use Rattle.std.proofs.Common.{ℕ, zero, suc, ◌≡◌, Option, Some, None, List, [], ◌∷◌, map, sym, ◌∙◌, arith}
 use Rattle.std.proofs.lemmas.List.Elements.{Contains-get_or}
 use Rattle.std.specs.Prelude.{slice_index_or, slice_get}
 use Rattle.reo_values.specs.declared.value.Value.{Value}
 use Rattle.reo_values.specs.declared.value.Value.TheVariants as values
 use Rattle.reo_net_base.specs.declared.joint.End.{End}
-use Rattle.reo_net_base.specs.Behaviour.{Behaviour, nothing}
-use Rattle.reo_net_base.specs.Net.{Net, Wiring, net_of, behaviour_at}
-use Rattle.reo_net_base.specs.Wired.{IsWired}
+use Rattle.reo_net_base.specs.Behaviour.{Behaviour}
+use Rattle.reo_net_base.specs.Net.{Wiring, behaviour_at}
 use Rattle.reo_kinds.specs.declared.kind.Kind.{Kind}
 use Rattle.reo_kinds.specs.declared.kind.Kind.TheVariants.{Writer, Taker, SyncDrain, AsyncDrain, Store, Shift, Variable, Map}
-use Rattle.reo_kinds.specs.Kinds.{behaviour_of}
 use Rattle.reo_open.specs.Opens.{open_behaviour}
 use Rattle.reo_open.specs.Opened.{opened, open_net, units, unit_held}
 use Rattle.reo_joint_values.specs.Standing.{CanStand, given_in, giver_of}
 use Rattle.reo_joint_values.specs.Standing.CanStand.{alone, passed}
-use Rattle.reo_weights.specs.Widths.{IsWide}
 use Rattle.reo_listing.specs.base.Laws.{OpenPartsAreNarrow}
 
 -- Nothing but unit, if anything.

@@ -164,7 +164,7 @@ gate_put w port takes allowed lt = record {
 }
 
 -- The side of a gate is the first of its primitive.
-gate_place : (w : Wiring Open) (port : ℕ) (takes : Bool) (allowed : GateRows) → IsGate w port takes allowed → side_at (net_of open_behaviour w) (end_of port 0) ≡ first_side (net_of open_behaviour w).primitives port
+pub gate_place : (w : Wiring Open) (port : ℕ) (takes : Bool) (allowed : GateRows) → IsGate w port takes allowed → side_at (net_of open_behaviour w) (end_of port 0) ≡ first_side (net_of open_behaviour w).primitives port
 gate_place w port takes allowed gate =
     let number : (behaviour_at (net_of open_behaviour w).primitives port).side_of 0 ≡ 0 = ap (λ (b : Behaviour). b.side_of 0) (gate_is w port takes allowed gate) in
     omega (arith, side_at_place (net_of open_behaviour w) (end_of port 0), number)

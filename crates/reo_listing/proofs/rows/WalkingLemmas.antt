@@ -18,9 +18,13 @@ use Rattle.reo_listing.specs.laws.Extended.{Extends, IsExtendFault}
 use Rattle.reo_listing.specs.laws.Gated.{allowed_for, gate_of, IsGate, put_at}
 use Rattle.reo_listing.specs.laws.Searched.{IsSearched, HasThreeColouring}
 use Rattle.reo_listing.proofs.laws.Fronts.{next_gate}
+use Rattle.reo_listing.proofs.rows.LookupsLemmas.{beside_put}
 use Rattle.reo_listing.proofs.laws.Gates.{IsPlain, gate_put}
 use Rattle.reo_listing.proofs.laws.Searching.{front_added, front_exceeds, none_added, searched_next, AddedUpTo, added_none, added_more, added_all, fault_more}
 use Rattle.reo_listing.specs.rows.Full.{IsFull}
+use Rattle.reo_listing.specs.rows.Lookups.{AreLookupsBeside}
+use Rattle.reo_listing.specs.declared.rows.lookups.Lookups.{Lookups}
+use Rattle.reo_net_circuit.specs.found_ends.Laws.{EndsStay}
 
 F-plain : IsPlain F
 F-plain e = cc
@@ -130,6 +134,23 @@ module _ (knots : Knotted) (part budget : ℕ) (ports : List ℕ) where
           searched longer longer_is =
               subst (λ (x : Wiring Open). IsSearched x knots part budget ports longer) (sym (v_is a_gate.0 a_gate.1))
               (subst (λ (ms : List Mark). IsSearched (put_at w port (gate_of a_gate.0 (allowed_for m))) knots part budget ports ms) (sym longer_is) (searched_next w knots part budget ports front is short a_gate.0 a_gate.1 m plain))
+
+          -- What parts are searched by is right beside the part, before and after.
+          pub looked : EndsStay → (lookups : Lookups) → AreLookupsBeside net knots part lookups → AreLookupsBeside (net_of open_behaviour v) knots part lookups
+          looked stay lookups are =
+              subst (λ (x : Wiring Open). AreLookupsBeside (net_of open_behaviour x) knots part lookups) (sym (v_is a_gate.0 a_gate.1))
+              (beside_put stay w is.wired knots is.are_knots part port a_gate.0 All (allowed_for m) a_gate.1 (is.held.here (length front) short) lookups are)
+
+          pub looked_back : EndsStay → (lookups : Lookups) → AreLookupsBeside (net_of open_behaviour v) knots part lookups → AreLookupsBeside net knots part lookups
+          looked_back stay lookups are =
+              let takes : Bool = a_gate.0 in
+              let one : Wiring Open = put_at w port (gate_of takes (allowed_for m)) in
+              let next : IsSearched one knots part budget ports (front ++ m ∷ []) = searched_next w knots part budget ports front is short takes a_gate.1 m plain in
+              let there : AreLookupsBeside (net_of open_behaviour one) knots part lookups = subst (λ (x : Wiring Open). AreLookupsBeside (net_of open_behaviour x) knots part lookups) (v_is takes a_gate.1) are in
+              let again : put_at one port (gate_of takes All) ≡ w =
+              ap (λ (ps : List Open). record w { primitives = ps }) (put_twice (gate_of takes (allowed_for m)) (gate_of takes All) w.primitives port a_gate.1.in_range a_gate.1.is) in
+              subst (λ (x : Wiring Open). AreLookupsBeside (net_of open_behaviour x) knots part lookups) again
+              (beside_put stay one next.wired knots next.are_knots part port takes (allowed_for m) All (gate_put w port takes (allowed_for m) a_gate.1.in_range) (next.held.here (length front) short) lookups there)
 
           pub said : (old new : List (List Mark)) → Extends (net_of open_behaviour v) inside ports old new → SaysAt w front m old new
           said old new h takes one = subst (λ (x : Wiring Open). Extends (net_of open_behaviour x) inside ports old new) (v_is takes one) h

@@ -1,5 +1,5 @@
 -- What listing the boundary tables of a circuit answers.
-use Rattle.std.specs.Prelude.{ℕ, ◌+◌, ◌<◌, ◌≤◌, ◌≡◌, Bool, true, false, List, Result, Ok, Err, filter, length, map, slice_index_or, nat_lt}
+use Rattle.std.specs.Prelude.{ℕ, ◌<◌, ◌≤◌, ◌≡◌, Bool, true, false, List, Result, Ok, Err, filter, length, map, slice_index_or, nat_lt}
 use Rattle.std.specs.List.{range_with_len}
 use Rattle.reo_net_base.specs.Net.{Net, Wiring}
 use Rattle.reo_net_base.specs.Sides.{side_count}

@@ -6,18 +6,20 @@ ghost use Rattle.reo_open.specs.Opens.{open_behaviour};
 ghost use Rattle.reo_weights.specs.Widths.{IsWide};
 ghost use Rattle.reo_listing.specs.laws.Gated.{AreHeld};
 ghost use Rattle.reo_listing.specs.laws.Searched.{IsSearched, HasThreeColouring};
+ghost use Rattle.reo_listing.specs.rows.Lookups.{AreLookupsBeside};
 ghost use Rattle.reo_listing.specs.rows.Meeting.{IsMeetingWithin};
 ghost use Rattle.reo_listing.specs.rows.PartTables.{IsPartTable, IsPartFault, IsBeginFault};
 
 use crate::base::ListFault;
+use crate::rows::lookups::Lookups;
+use crate::rows::searching::search;
 use crate::rows::walking::extend;
 use reo_knots::Knots;
 use reo_net_base::Mark;
 use reo_net_circuit::Circuit;
 use reo_net_laws::knot_jams_exactly;
 use reo_open::Open;
-use reo_reach::reach;
-use reo_search::{Exceeds, Wanted, first};
+use reo_search::Exceeds;
 use reo_steps::Steps;
 use reo_values::List;
 use std::alloc::Global;
@@ -34,6 +36,7 @@ fn begin<L: Ledger>(
     knots: &Knots,
     part: usize,
     budget: u64,
+    lookups: &mut Lookups,
     steps: &mut Steps<L>,
 ) -> Result<bool, ListFault>
     requires knots { AreKnots (net_of open_behaviour circuit.now) knots.now }
@@ -41,22 +44,18 @@ fn begin<L: Ledger>(
     requires budget { budget < 10 ^ 18 }
     requires narrow { IsWide (net_of open_behaviour circuit.now)
         (in_knot knots.now.numbers part) → ⊥ }
-    ensures { let net = net_of open_behaviour circuit.now in
+    requires lookups { AreLookupsBeside (net_of open_behaviour circuit.now) knots.now part
+        lookups.old }
+    ensures exact { let net = net_of open_behaviour circuit.now in
         let inside = in_knot knots.now.numbers part in
         MatchResult result (IsMeetingWithin budget net inside)
         (IsBeginFault budget net inside part) }
+    ensures lookups { OnOk result (AreLookupsBeside (net_of open_behaviour circuit.now) knots.now
+        part lookups.new) }
 {
     circuit.known();
     knot_jams_exactly();
-    let supply = reach(alloc, circuit)?;
-    let wanted = Wanted {
-        circuit,
-        knots,
-        supply: &supply,
-        knot: part,
-        turn: 1,
-    };
-    match first(alloc, &wanted, budget, steps) {
+    match search(alloc, circuit, knots, part, budget, lookups, steps) {
         Ok(found) => Ok(!found.jammed),
         Err(Exceeds::Spent { knot, weight }) => Err(ListFault::Spent { part: knot, weight }),
         Err(Exceeds::Wide { .. }) => unreachable!(),
@@ -72,13 +71,18 @@ fn filled<L: Ledger>(
     part: usize,
     ports: &[usize],
     budget: u64,
+    lookups: &mut Lookups,
     steps: &mut Steps<L>,
 ) -> Result<List<List<Mark>>, ListFault>
     requires budget { budget < 10 ^ 18 }
     requires searched { IsSearched circuit.old knots.now part budget ports.now [] }
     requires some { HasThreeColouring
         (net_of open_behaviour circuit.old) (in_knot knots.now.numbers part) }
+    requires lookups { AreLookupsBeside (net_of open_behaviour circuit.old) knots.now part
+        lookups.old }
     ensures circuit { OnOk result (circuit.new ≡ circuit.old) }
+    ensures lookups { OnOk result (AreLookupsBeside (net_of open_behaviour circuit.old) knots.now
+        part lookups.new) }
     ensures table { let net = net_of open_behaviour circuit.old in
         let inside = in_knot knots.now.numbers part in
         MatchResult result (IsPartTable budget net inside ports.now)
@@ -87,7 +91,7 @@ fn filled<L: Ledger>(
     let mut front = List::new(alloc);
     let mut rows = List::new(alloc);
     match extend(
-        alloc, circuit, knots, part, ports, budget, &mut front, &mut rows, steps,
+        alloc, circuit, knots, part, ports, budget, lookups, &mut front, &mut rows, steps,
     ) {
         Err(fault) => Err(fault),
         Ok(()) => Ok(rows),
@@ -107,6 +111,7 @@ pub fn rows_of<L: Ledger>(
     part: usize,
     ports: &[usize],
     budget: u64,
+    lookups: &mut Lookups,
     steps: &mut Steps<L>,
 ) -> Result<List<List<Mark>>, ListFault>
     requires knots { AreKnots (net_of open_behaviour circuit.old) knots.now }
@@ -115,7 +120,11 @@ pub fn rows_of<L: Ledger>(
     requires narrow { IsWide (net_of open_behaviour circuit.old)
         (in_knot knots.now.numbers part) → ⊥ }
     requires held { AreHeld circuit.old (in_knot knots.now.numbers part) ports.now [] }
+    requires lookups { AreLookupsBeside (net_of open_behaviour circuit.old) knots.now part
+        lookups.old }
     ensures circuit { OnOk result (circuit.new ≡ circuit.old) }
+    ensures lookups { OnOk result (AreLookupsBeside (net_of open_behaviour circuit.old) knots.now
+        part lookups.new) }
     ensures table { let net = net_of open_behaviour circuit.old in
         let inside = in_knot knots.now.numbers part in
         MatchResult result (IsPartTable budget net inside ports.now)
@@ -123,9 +132,9 @@ pub fn rows_of<L: Ledger>(
 {
     circuit.known();
     let _order = circuit.order();
-    match begin(alloc, circuit, knots, part, budget, steps) {
+    match begin(alloc, circuit, knots, part, budget, lookups, steps) {
         Err(fault) => Err(fault),
         Ok(false) => Ok(List::new(alloc)),
-        Ok(true) => filled(alloc, circuit, knots, part, ports, budget, steps),
+        Ok(true) => filled(alloc, circuit, knots, part, ports, budget, lookups, steps),
     }
 }

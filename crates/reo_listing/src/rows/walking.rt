@@ -7,14 +7,16 @@ ghost use Rattle.reo_open.specs.Opens.{open_behaviour};
 ghost use Rattle.reo_listing.specs.laws.Extended.{Extends, IsExtendFault};
 ghost use Rattle.reo_listing.specs.laws.Gated.{allowed_for, gate_of, IsGate, put_at};
 ghost use Rattle.reo_listing.specs.laws.Searched.{IsSearched, HasThreeColouring};
+ghost use Rattle.reo_listing.specs.rows.Lookups.{AreLookupsBeside};
 
 use crate::base::ListFault;
 use crate::rows::adding::add;
 use crate::rows::holding::{allow, allowed_for};
+use crate::rows::lookups::Lookups;
 use crate::rows::meeting::meets;
 use reo_knots::Knots;
 use reo_net_base::Mark;
-use reo_net_circuit::Circuit;
+use reo_net_circuit::{Circuit, ends_stay};
 use reo_open::{GateRows, Open};
 use reo_steps::Steps;
 use reo_values::List;
@@ -30,16 +32,21 @@ pub(crate) fn extend<L: Ledger>(
     part: usize,
     ports: &[usize],
     budget: u64,
+    lookups: &mut Lookups,
     front: &mut List<Mark>,
     rows: &mut List<List<Mark>>,
     steps: &mut Steps<L>,
 ) -> Result<(), ListFault>
     requires budget { budget < 10 ^ 18 }
     requires searched { IsSearched circuit.old knots.now part budget ports.now front.old }
+    requires lookups { AreLookupsBeside (net_of open_behaviour circuit.old) knots.now part
+        lookups.old }
     requires some { HasThreeColouring
         (net_of open_behaviour circuit.old) (in_knot knots.now.numbers part) }
     requires few { length rows.old ≤ 4096 }
     ensures circuit { OnOk result (circuit.new ≡ circuit.old) }
+    ensures lookups { OnOk result (AreLookupsBeside (net_of open_behaviour circuit.old) knots.now
+        part lookups.new) }
     ensures few { OnOk result (length rows.new ≤ 4096) }
     ensures front { OnOk result (front.new ≡ front.old) }
     ensures rows { let net = net_of open_behaviour circuit.old in
@@ -57,6 +64,7 @@ pub(crate) fn extend<L: Ledger>(
         part,
         ports,
         budget,
+        lookups,
         front,
         rows,
         steps,
@@ -70,6 +78,7 @@ pub(crate) fn extend<L: Ledger>(
             part,
             ports,
             budget,
+            lookups,
             front,
             rows,
             steps,
@@ -83,6 +92,7 @@ pub(crate) fn extend<L: Ledger>(
                 part,
                 ports,
                 budget,
+                lookups,
                 front,
                 rows,
                 steps,
@@ -101,6 +111,7 @@ fn say<L: Ledger>(
     part: usize,
     ports: &[usize],
     budget: u64,
+    lookups: &mut Lookups,
     front: &mut List<Mark>,
     rows: &mut List<List<Mark>>,
     steps: &mut Steps<L>,
@@ -108,10 +119,14 @@ fn say<L: Ledger>(
 ) -> Result<(), ListFault>
     requires budget { budget < 10 ^ 18 }
     requires searched { IsSearched circuit.old knots.now part budget ports.now front.old }
+    requires lookups { AreLookupsBeside (net_of open_behaviour circuit.old) knots.now part
+        lookups.old }
     requires short { length front.old < length ports.now }
     requires plain { mark ≢ Mark.J }
     requires few { length rows.old ≤ 4096 }
     ensures circuit { OnOk result (circuit.new ≡ circuit.old) }
+    ensures lookups { OnOk result (AreLookupsBeside (net_of open_behaviour circuit.old) knots.now
+        part lookups.new) }
     ensures few { OnOk result (length rows.new ≤ 4096) }
     ensures front { OnOk result (front.new ≡ front.old) }
     ensures rows { let port = slice_index ports.now (length front.old) in
@@ -122,12 +137,13 @@ fn say<L: Ledger>(
         in MatchResult result (λ _. Extends net inside ports.now rows.old rows.new)
         (IsExtendFault net inside ports.now rows.old part) }
 {
+    ends_stay();
     let place = front.len();
     let port = ports[place];
     allow(circuit, port, allowed_for(mark));
     front.push(mark)?;
     match follow(
-        alloc, circuit, knots, part, ports, budget, front, rows, steps,
+        alloc, circuit, knots, part, ports, budget, lookups, front, rows, steps,
     ) {
         Err(fault) => Err(fault),
         Ok(()) => {
@@ -147,14 +163,19 @@ fn follow<L: Ledger>(
     part: usize,
     ports: &[usize],
     budget: u64,
+    lookups: &mut Lookups,
     front: &mut List<Mark>,
     rows: &mut List<List<Mark>>,
     steps: &mut Steps<L>,
 ) -> Result<(), ListFault>
     requires budget { budget < 10 ^ 18 }
     requires searched { IsSearched circuit.old knots.now part budget ports.now front.old }
+    requires lookups { AreLookupsBeside (net_of open_behaviour circuit.old) knots.now part
+        lookups.old }
     requires few { length rows.old ≤ 4096 }
     ensures circuit { OnOk result (circuit.new ≡ circuit.old) }
+    ensures lookups { OnOk result (AreLookupsBeside (net_of open_behaviour circuit.old) knots.now
+        part lookups.new) }
     ensures few { OnOk result (length rows.new ≤ 4096) }
     ensures front { OnOk result (front.new ≡ front.old) }
     ensures rows { let net = net_of open_behaviour circuit.old in
@@ -162,9 +183,9 @@ fn follow<L: Ledger>(
         MatchResult result (λ _. Extends net inside ports.now rows.old rows.new)
         (IsExtendFault net inside ports.now rows.old part) }
 {
-    if meets(alloc, circuit, knots, part, budget, steps)? {
+    if meets(alloc, circuit, knots, part, budget, lookups, steps)? {
         extend(
-            alloc, circuit, knots, part, ports, budget, front, rows, steps,
+            alloc, circuit, knots, part, ports, budget, lookups, front, rows, steps,
         )
     } else {
         Ok(())

@@ -2,7 +2,11 @@ use Rattle.std.proofs.Common.{◌∙◌, sym}
 use Rattle.reo_net_base.specs.Net.{net_of}
 use Rattle.reo_open.specs.Opens.{open_behaviour}
 use Rattle.reo_listing.proofs.PartLemmas.{without_ports, with_ports, none_more, table_more, stops}
+use Rattle.reo_listing.proofs.rows.LookupsLemmas.{beside}
 use Rattle.reo_listing.proofs.parts.add_part.Goals as goal
+
+pub table_of-requires-clause-lookups : goal.table_of-requires-clause-lookups
+table_of-requires-clause-lookups g c = beside (net_of open_behaviour c.args.circuit.now) c.args.knots.now c.args.part c.args.lookups.now c.requires.lookups
 
 pub returns-then-is_empty-clause-tables : goal.returns-then-is_empty-clause-tables
 returns-then-is_empty-clause-tables g c =

@@ -4,8 +4,8 @@ use Rattle.reo_open.specs.Opens.{open_behaviour}
 use Rattle.reo_listing.proofs.rows.MeetingLemmas.{meeting, only_memory}
 use Rattle.reo_listing.proofs.rows.meeting.meets.Goals as goal
 
-pub returns-in-Ok : goal.returns-in-Ok
-returns-in-Ok g c =
+pub returns-in-Ok-clause-meeting : goal.returns-in-Ok-clause-meeting
+returns-in-Ok-clause-meeting g c =
     meeting (net_of open_behaviour c.args.circuit.now) (in_knot c.args.knots.now.numbers c.args.part) c.known.ensures.wired (c.requires.knots.are_knots c.args.part c.requires.part)
     c.knot_jams_exactly.ensures c.args.budget 1 c.in-Ok.found c.in-Ok.ensures.exact c.in-Ok.ensures.jammed
 

@@ -6,4 +6,4 @@ use Rattle.reo_listing.proofs.rows.part.rows_of.Goals as goal
 
 pub returns-in-Err-clause-table : goal.returns-in-Err-clause-table
 returns-in-Err-clause-table g c =
-    fault_of c.args.budget (net_of open_behaviour c.args.circuit.now) (in_knot c.args.knots.now.numbers c.args.part) c.args.ports.now c.args.part c.in-Err.fault c.in-Err.ensures
+    fault_of c.args.budget (net_of open_behaviour c.args.circuit.now) (in_knot c.args.knots.now.numbers c.args.part) c.args.ports.now c.args.part c.in-Err.fault c.in-Err.ensures.exact
