@@ -1,13 +1,11 @@
 -- What parts are searched by stays right where a gate changes, but on the part of the gate.
 use Rattle.std.proofs.Common.{◌≡◌, ◌≢◌, inl, inr, ℕ, ◌+◌, ◌<◌, Bool, true, List, length, get_or, refl, sym, ◌∙◌, ap, subst, arith}
+use Rattle.std.proofs.lemmas.Bool.{and_parts, eqb-true, cases_eq}
 use Rattle.std.specs.Prelude.{◌==◌, nat_lt}
-use Rattle.reo_values.proofs.Truths.{and_right}
-use Rattle.reo_values.proofs.Naturals.{eq_same}
 use Rattle.reo_net_base.specs.Behaviour.{Behaviour}
 use Rattle.reo_net_base.specs.Net.{Net, Wiring, net_of, behaviour_at, end_of, first_side, side_at}
 use Rattle.reo_net_base.specs.Shapes.{SameShapes}
 use Rattle.reo_net_base.specs.Wired.{IsWired}
-use Rattle.reo_net_circuit.proofs.Cases.{eq_cases}
 use Rattle.reo_net_circuit.proofs.PortLemmas.{replaced}
 use Rattle.reo_net_circuit.specs.found_ends.Ends.{AreEnds}
 use Rattle.reo_net_circuit.specs.found_ends.Laws.{EndsStay}
@@ -39,7 +37,7 @@ whole net knots part old new are ends orders room here others = record {
   ends = subst (AreEnds net) (sym ends) are.ends;
   orders = subst (AreOrders net knots) (sym orders) are.orders;
   room = room;
-  right = λ k lt. elim (eq_cases k part) [ inl e ↦ subst (λ (i : ℕ). AreRightOn net (in_knot knots.numbers i) new.tables) (sym e) here | inr ne ↦ others k lt ne (are.right k lt ne) ];
+  right = λ k lt. elim (cases_eq k part) [ inl e ↦ subst (λ (i : ℕ). AreRightOn net (in_knot knots.numbers i) new.tables) (sym e) here | inr ne ↦ others k lt ne (are.right k lt ne) ];
 }
 
 -- The tables of a whole circuit are right on each part.
@@ -59,8 +57,8 @@ beside_ready law net knots part lookups ends orders ready = beside net knots par
 -- A side is in one part.
 one_part : (numbers : List ℕ) (k part s : ℕ) → in_knot numbers k s ≡ true → in_knot numbers part s ≡ true → k ≡ part
 one_part numbers k part s h there =
-    sym (eq_same (get_or numbers s 0) k (and_right (nat_lt s (length numbers)) (get_or numbers s 0 == k) h))
-    ∙ eq_same (get_or numbers s 0) part (and_right (nat_lt s (length numbers)) (get_or numbers s 0 == part) there)
+    sym (eqb-true (get_or numbers s 0) k ((and_parts (nat_lt s (length numbers)) (get_or numbers s 0 == k) h).1))
+    ∙ eqb-true (get_or numbers s 0) part ((and_parts (nat_lt s (length numbers)) (get_or numbers s 0 == part) there).1)
 
 module _ (stay : EndsStay) (w : Wiring Open) (wired : IsWired (net_of open_behaviour w)) (knots : Knotted) (are_knots : AreKnots (net_of open_behaviour w) knots) (part port : ℕ) (takes : Bool) (before after : GateRows)
     (gate : IsGate w port takes before) (here : in_knot knots.numbers part (side_at (net_of open_behaviour w) (end_of port 0)) ≡ true) where
@@ -83,7 +81,7 @@ module _ (stay : EndsStay) (w : Wiring Open) (wired : IsWired (net_of open_behav
   same_on k ne = record {
     joints = refl;
     shapes = shapes;
-    same = λ i side i_in side_in h. elim (eq_cases i port) [
+    same = λ i side i_in side_in h. elim (cases_eq i port) [
       | inl e ↦ absurd (
           let zero_side = one_side side (subst (λ (n : ℕ). side < (behaviour_at net.primitives n).sides) e side_in) in
           ne (one_part knots.numbers k part (first_side net.primitives port + 0)
