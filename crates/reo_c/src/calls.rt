@@ -1,5 +1,5 @@
 //! The calls for programs in C.
-ghost use Rattle.std.specs.Prelude.{◌≡◌, None, length};
+ghost use Rattle.std.specs.Prelude.{◌≡◌, ◌≢◌, None, length};
 ghost use Rattle.reo_net_base.specs.declared.port.Offer.TheVariants.{Take as ToTake};
 ghost use Rattle.reo_handles.specs.Moves.{Moved, TellsItem};
 ghost use Rattle.reo_handles.specs.Offers.{Offers, Withdraws, Writes};
@@ -129,6 +129,8 @@ pub extern "C" fn reo_words(number: u32, room: &mut [u8]) -> usize
         → result ≡ length (words_of status) }
     ensures laid { (status : AStatus) → number ≡ number_of status
         → room.new ≡ laid (words_of status) room.old }
+    ensures none { ((status : AStatus) → number ≢ number_of status)
+        → (result ≡ 0) × (room.new ≡ room.old) }
 {
     lay_words(number, room)
 }

@@ -1,5 +1,5 @@
 //! The words of numbers that calls answer.
-ghost use Rattle.std.specs.Prelude.{◌≡◌, length};
+ghost use Rattle.std.specs.Prelude.{◌≡◌, ◌≢◌, [], length};
 ghost use Rattle.reo_handles.specs.Statuses.{number_of, words_of};
 ghost use Rattle.reo_handles.specs.Texts.{laid};
 ghost use Rattle.reo_handles.specs.declared.status.CallStatus.{CallStatus as AStatus};
@@ -8,7 +8,8 @@ use crate::texts::lay;
 
 /// The words of a number, or no bytes where none is answered so.
 fn words(number: u32) -> &'static [u8]
-    ensures { (status : AStatus) → number ≡ number_of status → result.now ≡ words_of status }
+    ensures told { (status : AStatus) → number ≡ number_of status → result.now ≡ words_of status }
+    ensures none { ((status : AStatus) → number ≢ number_of status) → result.now ≡ [] }
 {
     match number {
         0 => b"done",
@@ -37,6 +38,8 @@ pub fn lay_words(number: u32, room: &mut [u8]) -> usize
         → result ≡ length (words_of status) }
     ensures laid { (status : AStatus) → number ≡ number_of status
         → room.new ≡ laid (words_of status) room.old }
+    ensures none { ((status : AStatus) → number ≢ number_of status)
+        → (result ≡ 0) × (room.new ≡ room.old) }
 {
     lay(room, words(number))
 }
